@@ -1,16 +1,16 @@
 -- What a store is told and asked, what it answers, and what each call leaves in it. Assumes nothing: these are definitions.
-use mathlib.Core.Bool.{Bool, true, false, cond, _&&_, _||_}
+use mathlib.Core.Bool.{Bool, true, cond, _&&_, _||_}
 use mathlib.Core.List.{List, [], _∷_}
 use mathlib.Core.Option.{Option, some, none}
 use Prim.Native.Nat.{ℕ, suc, _+_, _-_}
 use lib.Dec.{ltb, leb, eqb}
 use lib.ListN.{length}
 use Rattle.spec.specs.Basics.{Except, ok, error, isSome, all, Text, insert, find, remove, ascending, name}
-use Rattle.spec.specs.Values.{EntityUID, Primitive, bool, int, string, entityUID, Value, prim, set, recordOf, Values, nil, cons, Attrs, empty, attr, fields, codeUID, lessValue, Entity, Entities, entityKey, findEntity, Request}
+use Rattle.spec.specs.Values.{EntityUID, Primitive, bool, int, string, entityUID, Value, prim, set, recordOf, Values, nil, cons, Attrs, empty, attr, elements, fields, codeUID, code, Entity, Entities, entityKey, findEntity, Request}
 use Rattle.spec.specs.Exprs.{UnaryOp, not, neg, isEmpty, like, is, Expr, lit, var, ite, and, or, unaryApp, binaryApp, getAttr, hasAttr, set, recordOf, Exprs, nil, cons, ExprAttrs, empty, attr}
 use Rattle.spec.specs.Policies.{Scope, any, eq, mem, is, isMem, ActionScope, inScope, actionInAny, Condition, Policy, Policies, policyKey, Response, isAuthorized}
 use Rattle.spec.specs.Types.{CedarType, bool, int, string, entity, set, recordOf, RecordType, empty, attr, EntitySchemaEntry, ActionSchemaEntry, Schema}
-use Rattle.spec.specs.Validate.{wellFormed, ValidationError, validationErrorNumber, Invalid, validate, validateRequest, validateEntities}
+use Rattle.spec.specs.Validate.{wellFormed, ValidationError, Invalid, validate, validateRequest, validateEntities}
 
 -- ---- calls
 pub data Call : Type 0 where
@@ -162,19 +162,15 @@ abbrev pub mostSize : ℕ
 mostSize = 65536
 
 -- ---- canonical values: the elements of a set in the order of values, each once; the attributes of a record in the order of names, each once
-abbrev pub lessThanAll : Value → Values → Bool
-lessThanAll v nil = true
-lessThanAll v (cons w ws) = lessValue v w
-
 abbrev mutual
   pub canonical : Value → Bool
   canonical (prim p) = true
-  canonical (set vs) = canonicalSet vs
+  canonical (set vs) = ascending code (elements vs) && canonicalAll vs
   canonical (recordOf r) = ascending name (fields r) && canonicalAttrs r
 
-  pub canonicalSet : Values → Bool
-  canonicalSet nil = true
-  canonicalSet (cons v vs) = canonical v && (lessThanAll v vs && canonicalSet vs)
+  pub canonicalAll : Values → Bool
+  canonicalAll nil = true
+  canonicalAll (cons v vs) = canonical v && canonicalAll vs
 
   pub canonicalAttrs : Attrs → Bool
   canonicalAttrs empty = true

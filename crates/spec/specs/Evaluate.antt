@@ -1,11 +1,11 @@
 -- What an expression comes to: a value, or the first of five errors. Assumes nothing: these are definitions.
 use mathlib.Core.Bool.{Bool, true, false, cond, not as flip, _&&_, _||_}
 use mathlib.Core.List.{List, [], _∷_}
-use mathlib.Core.Option.{Option, some, none}
+use mathlib.Core.Option.{none}
 use Prim.Native.Nat.{ℕ, _+_, _*_, _-_}
 use lib.Dec.{ltb, leb, eqb}
 use Rattle.spec.specs.Basics.{Except, ok, error, _>>=_, orError, isSome, any, all, isEmpty as isNil, Text, same, insertAll, lookup, name}
-use Rattle.spec.specs.Values.{EntityUID, Primitive, bool, int, string, entityUID, Value, prim, set, recordOf, Values, Attrs, elements, toValues, fields, toAttrs, sameValue, code, sameUID, Entity, Entities, findEntity, attrsOrEmpty, tagsOrEmpty, ancestorsOrEmpty, Request}
+use Rattle.spec.specs.Values.{EntityUID, bool, int, string, entityUID, Value, prim, set, recordOf, Attrs, elements, toValues, fields, toAttrs, sameValue, code, sameUID, Entities, findEntity, attrsOrEmpty, tagsOrEmpty, ancestorsOrEmpty, Request}
 use Rattle.spec.specs.Exprs.{Var, principal, action, resource, context, star, UnaryOp, not, neg, isEmpty, like, is, BinaryOp, eq, mem, hasTag, getTag, less, lessEq, add, sub, mul, contains, containsAll, containsAny, Expr, lit, var, ite, and, or, unaryApp, binaryApp, getAttr, hasAttr, set, recordOf, Exprs, nil, cons, ExprAttrs, empty, attr}
 
 pub data Error : Type 0 where

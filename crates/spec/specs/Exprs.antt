@@ -1,11 +1,10 @@
 -- The expressions of policies. Assumes nothing: these are definitions.
 use mathlib.Core.Bool.{Bool, Bool-discrete}
-use mathlib.Core.List.{List, [], _∷_}
-use mathlib.Core.Option.{Option, some, none}
+use mathlib.Core.List.{List}
 use Prim.Native.Nat.{ℕ}
 use native.Mathlib.Decide.{ℕ-discrete}
 use Rattle.spec.specs.Basics.{Text, isYes, Text-discrete}
-use Rattle.spec.specs.Values.{EntityUID, EntityUID-discrete, Primitive, bool, int, string, entityUID, Primitive-discrete}
+use Rattle.spec.specs.Values.{EntityUID, EntityUID-discrete, Primitive, entityUID, Primitive-discrete}
 
 pub data Var : Type 0 where
   principal : Var

@@ -8,5 +8,6 @@ pub mod Types
 pub mod Typecheck
 pub mod Validate
 pub mod Calls
+pub mod Bytes
 pub mod Promises
 pub mod TwoDeeds

@@ -1,10 +1,9 @@
 -- Policies, and what is allowed by them. Assumes nothing: these are definitions.
 use mathlib.Core.Bool.{Bool, true, false, cond, not as flip, _&&_}
 use mathlib.Core.List.{List, [], _∷_}
-use Prim.Native.Nat.{ℕ}
 use Rattle.spec.specs.Basics.{Except, ok, error, isEmpty as isNil, Text, insert, itself}
-use Rattle.spec.specs.Values.{EntityUID, Primitive, bool, int, string, entityUID, Value, prim, set, recordOf, Entities, Request}
-use Rattle.spec.specs.Exprs.{Var, principal, action, resource, UnaryOp, not, is as isOp, BinaryOp, eq as eqOp, mem as memOp, Expr, lit, var, and, unaryApp, binaryApp, set, Exprs, nil, cons}
+use Rattle.spec.specs.Values.{EntityUID, bool, int, string, entityUID, Value, prim, set, recordOf, Entities, Request}
+use Rattle.spec.specs.Exprs.{Var, principal, action, resource, not, is as isOp, eq as eqOp, mem as memOp, Expr, lit, var, and, unaryApp, binaryApp, set, Exprs, nil, cons}
 use Rattle.spec.specs.Evaluate.{Error, evaluate}
 
 pub data Effect : Type 0 where

@@ -1,21 +1,21 @@
 -- What is promised. Each is a statement, a type: the crate `laws` proves those about the definitions, and the public functions of the engine the others.
 use mathlib.Core.Path.{_≡_}
 use mathlib.Core.Bool.{Bool, true, false, not as flip, _&&_, _||_}
-use mathlib.Core.List.{List, [], _∷_, _++_}
+use mathlib.Core.List.{List, [], _∷_}
 use mathlib.Core.Logic.{_⊎_}
-use mathlib.Core.Option.{Option, some, none}
-use Prim.Native.Nat.{ℕ, _+_, _*_, _≤_, _<_}
+use mathlib.Core.Option.{some, none}
+use Prim.Native.Nat.{ℕ, _+_, _*_, _≤_}
 use lib.Dec.{eqb, ltb}
 use lib.ListN.{length}
-use Rattle.spec.specs.Basics.{Except, ok, error, isSome, any, all, Text, same, less, insert}
-use Rattle.spec.specs.Values.{EntityUID, Primitive, bool, int, string, entityUID, Value, prim, set, recordOf, elements, toValues, sameValue, code, lessValue, Entities, Request}
+use Rattle.spec.specs.Basics.{Except, ok, error, isSome, any, all, Text, same, less}
+use Rattle.spec.specs.Values.{bool, int, string, entityUID, Value, prim, set, recordOf, sameValue, code, lessValue, Entities, Request}
 use Rattle.spec.specs.Exprs.{Expr, substituteAction}
 use Rattle.spec.specs.Evaluate.{Error, entityDoesNotExist, attrDoesNotExist, tagDoesNotExist, typeError, arithBoundsError, evaluate}
-use Rattle.spec.specs.Policies.{Effect, permit, forbid, Policy, Policies, toExpr, satisfied, hasError, sameEffect, satisfiedWithEffect, Decision, allow, deny, Response, isAuthorized}
-use Rattle.spec.specs.Types.{BoolType, isTrue, isFalse, CedarType, bool, recordOf, lub, subty, Schema, RequestType}
+use Rattle.spec.specs.Policies.{Effect, permit, forbid, Policy, Policies, toExpr, satisfied, hasError, sameEffect, satisfiedWithEffect, Decision, allow, deny, isAuthorized}
+use Rattle.spec.specs.Types.{CedarType, bool, recordOf, lub, Schema, RequestType}
 use Rattle.spec.specs.Typecheck.{Capabilities, typeOf}
-use Rattle.spec.specs.Validate.{wellFormed, typeEnv, validate, instanceOfType, instanceOfRequestType, validateRequest, validateEntities, requestTypes}
-use Rattle.spec.specs.Calls.{Call, Answer, Limits, Store, allBelow, encodable, Refusal, refusal, answer, afterCall, storeAfter}
+use Rattle.spec.specs.Validate.{wellFormed, typeEnv, validate, instanceOfType, validateRequest, validateEntities}
+use Rattle.spec.specs.Calls.{Call, Answer, Limits, Store, allBelow, encodable, refusal, answer, afterCall, storeAfter}
 
 -- ---- an engine: its memory, which is numbers, what a call leaves there, and what it answers
 pub record Engine : Type 0 where
@@ -144,6 +144,13 @@ ReasonsAndErrors =
     (hasText (p .id) (isAuthorized q es ps .determiningPolicies) ≡ (satisfied p q es && sameEffect (p .effect) (decidingEffect (isAuthorized q es ps .decision))))
     × (hasText (p .id) (isAuthorized q es ps .erroringPolicies) ≡ hasError p q es)
     × (hasText (p .id) (isAuthorized q es ps .determiningPolicies) ≡ true → hasText (p .id) (isAuthorized q es ps .erroringPolicies) ≡ false)
+
+-- only ids of policies are told
+abbrev pub OnlyPoliciesAreNamed : Type 0
+OnlyPoliciesAreNamed =
+    (q : Request) (es : Entities) (ps : Policies) (t : Text) →
+    (hasText t (isAuthorized q es ps .determiningPolicies) ≡ true → (p : Policy) × Among p ps × (t ≡ p .id))
+    × (hasText t (isAuthorized q es ps .erroringPolicies) ≡ true → (p : Policy) × Among p ps × (t ≡ p .id))
 
 -- ---- 5. what has a type comes to a value of it, or fails for an entity that is not there or a number out of bounds: so what is only true comes to true
 abbrev pub ofTypeOrExcused : CedarType → Schema → Except Error Value → Bool

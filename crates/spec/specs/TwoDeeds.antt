@@ -1,17 +1,17 @@
 -- A worked example: two deeds, the people and roles about them, seven policies and eight requests; and what the definitions say of them.
 use mathlib.Core.Path.{_≡_}
-use mathlib.Core.Bool.{Bool, true, false}
-use mathlib.Core.List.{List, [], _∷_, _++_}
+use mathlib.Core.Bool.{true, false}
+use mathlib.Core.List.{List, [], _∷_}
 use Prim.Native.Nat.{ℕ, _+_}
 use lib.Chars.{codes}
 use Rattle.spec.specs.Basics.{ok, Text}
-use Rattle.spec.specs.Values.{EntityUID, Primitive, bool, int, string, entityUID, Value, prim, Attrs, empty, attr, Entity, Entities, Request}
-use Rattle.spec.specs.Exprs.{Var, principal, action, resource, context, BinaryOp, eq, less, mul, Expr, lit, var, and, or, binaryApp, getAttr, hasAttr}
+use Rattle.spec.specs.Values.{EntityUID, Primitive, bool, int, entityUID, prim, Attrs, empty, attr, Entity, Entities, Request}
+use Rattle.spec.specs.Exprs.{principal, action, resource, context, eq, less, mul, Expr, lit, var, and, or, binaryApp, getAttr, hasAttr}
 use Rattle.spec.specs.Evaluate.{half}
-use Rattle.spec.specs.Policies.{Effect, permit, forbid, Scope, any, eq, mem, is, ActionScope, inScope, Condition, when, unless, Policy, Policies, Decision, allow, deny, Response, isAuthorized}
-use Rattle.spec.specs.Types.{BoolType, anyBool, CedarType, bool, int, entity, RecordType, empty, attr, EntitySchemaEntry, ActionSchemaEntry, Schema}
+use Rattle.spec.specs.Policies.{permit, forbid, any, eq, mem, is, inScope, Condition, when, unless, Policy, Policies, Decision, allow, deny, Response}
+use Rattle.spec.specs.Types.{anyBool, CedarType, bool, int, entity, empty, attr, Schema}
 use Rattle.spec.specs.Typecheck.{attrNotFound}
-use Rattle.spec.specs.Validate.{wellFormed, ValidationError, typeError, impossiblePolicy, validate, validateRequest, validateEntities}
+use Rattle.spec.specs.Validate.{wellFormed, typeError, impossiblePolicy, validate, validateRequest, validateEntities}
 use Rattle.spec.specs.Calls.{Call, setSchema, putPolicy, putEntity, validatePolicies, authorize, Limits, Answer, allValid, notValid, authorized, answer, storeAfter}
 use Rattle.spec.specs.Promises.{allCalls}
 

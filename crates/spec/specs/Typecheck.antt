@@ -3,10 +3,10 @@ use mathlib.Core.Bool.{Bool, true, false, cond, _&&_, _||_}
 use mathlib.Core.List.{List, [], _∷_, _++_}
 use mathlib.Core.Option.{Option, some, none}
 use Prim.Native.Nat.{ℕ}
-use Rattle.spec.specs.Basics.{Except, ok, error, _>>=_, orError, withError, isSome, any, isYes, Text, same, Text-discrete, find, insertAll, lookup, name}
+use Rattle.spec.specs.Basics.{Except, ok, error, _>>=_, orError, withError, isSome, any, isYes, Text, same, Text-discrete, insertAll, lookup, name}
 use Rattle.spec.specs.Values.{EntityUID, Primitive, bool, int, string, entityUID, samePrimitive, sameUID}
 use Rattle.spec.specs.Exprs.{Var, principal, action, resource, context, UnaryOp, not, neg, isEmpty, like, is, BinaryOp, eq, mem, hasTag, getTag, less, lessEq, add, sub, mul, contains, containsAll, containsAny, Expr, lit, var, ite, and, or, unaryApp, binaryApp, getAttr, hasAttr, set, recordOf, Exprs, nil, cons, ExprAttrs, empty, attr, expr-discrete}
-use Rattle.spec.specs.Types.{BoolType, anyBool, isTrue, isFalse, CedarType, bool, int, string, entity, set, recordOf, RecordType, QualifiedType, attributes, toRecordType, lub, EntitySchemaEntry, tagType, ActionSchemaEntry, Schema, findEntityType, findAction, isActionType, known, RequestType, TypeEnv}
+use Rattle.spec.specs.Types.{BoolType, anyBool, isTrue, isFalse, CedarType, bool, int, string, entity, set, recordOf, QualifiedType, attributes, toRecordType, lub, EntitySchemaEntry, tagType, ActionSchemaEntry, Schema, findEntityType, findAction, isActionType, known, RequestType, TypeEnv}
 
 pub data TypeError : Type 0 where
   lubErr : TypeError

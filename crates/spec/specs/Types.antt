@@ -2,7 +2,6 @@
 use mathlib.Core.Bool.{Bool, true, false, cond, _&&_, _||_, Bool-discrete}
 use mathlib.Core.List.{List, [], _∷_}
 use mathlib.Core.Option.{Option, some, none}
-use Prim.Native.Nat.{ℕ}
 use Rattle.spec.specs.Basics.{isSome, any, isYes, Text, same, Text-discrete, find, first}
 use Rattle.spec.specs.Values.{EntityUID, codeUID}
 

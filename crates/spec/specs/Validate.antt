@@ -2,15 +2,15 @@
 use mathlib.Core.Bool.{Bool, true, false, cond, not as flip, _&&_, _||_}
 use mathlib.Core.List.{List, [], _∷_, _++_}
 use mathlib.Core.Option.{Option, some, none}
-use Prim.Native.Nat.{ℕ, _≤_}
+use Prim.Native.Nat.{ℕ}
 use lib.Dec.{leb}
 use lib.ListN.{length}
 use Rattle.spec.specs.Basics.{Except, ok, error, _>>=_, isSome, onSome, any, all, isEmpty as isNil, Text, same, ascending, itself, lookup, name}
 use Rattle.spec.specs.Values.{EntityUID, Primitive, bool, int, string, entityUID, Value, prim, set, recordOf, Values, nil, cons, Attrs, empty, attr, fields, codeUID, sameUID, Entity, Entities, findEntity, Request}
 use Rattle.spec.specs.Exprs.{UnaryOp, not, neg, isEmpty, like, is, Expr, lit, var, ite, and, or, unaryApp, binaryApp, getAttr, hasAttr, set, recordOf, Exprs, nil, cons, ExprAttrs, empty, attr, substituteAction}
 use Rattle.spec.specs.Policies.{Policy, Policies, toExpr}
-use Rattle.spec.specs.Types.{BoolType, anyBool, isTrue, isFalse, CedarType, bool, int, string, entity, set, recordOf, RecordType, empty, attr, sameType, QualifiedType, attributes, subty, EntitySchemaEntry, tagType, ActionSchemaEntry, Schema, entityTypeKey, actionKey, findEntityType, findAction, knownType, known, RequestType, TypeEnv}
-use Rattle.spec.specs.Typecheck.{TypeError, unexpectedType, unknownEntity, typeErrorNumber, Typed, typeOf}
+use Rattle.spec.specs.Types.{BoolType, anyBool, isTrue, isFalse, CedarType, bool, int, string, entity, set, recordOf, RecordType, empty, attr, sameType, attributes, subty, EntitySchemaEntry, tagType, ActionSchemaEntry, Schema, entityTypeKey, actionKey, findEntityType, findAction, knownType, known, RequestType, TypeEnv}
+use Rattle.spec.specs.Typecheck.{TypeError, unexpectedType, unknownEntity, typeErrorNumber, typeOf}
 
 -- ---- a well-formed schema: names and lists are in order, each once; all that is named is in it; truths may be either;
 -- what is above an action above an action is above that action, which is not above itself; no action's type is a type of entities

@@ -1,12 +1,12 @@
 -- Values, the entities that have them, and requests. Assumes nothing: these are definitions.
 use mathlib.Core.Path.{_≡_, ap}
-use mathlib.Core.Bool.{Bool, true, false, cond, _||_, Bool-discrete}
+use mathlib.Core.Bool.{Bool, cond, Bool-discrete}
 use mathlib.Core.List.{List, [], _∷_, _++_}
 use mathlib.Core.Option.{Option, some, none}
 use Prim.Native.Nat.{ℕ}
 use native.Mathlib.Decide.{ℕ-discrete}
 use lib.ListN.{length}
-use Rattle.spec.specs.Basics.{any, isYes, Text, same, less, Text-discrete, find, lookup}
+use Rattle.spec.specs.Basics.{isYes, Text, same, less, Text-discrete, find}
 
 -- an entity is named by its type and its id
 pub record EntityUID : Type 0 where

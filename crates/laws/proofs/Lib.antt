@@ -1,0 +1,10 @@
+pub mod Texts
+pub mod Codes
+pub mod Keyed
+pub mod Lists
+pub mod Ids
+pub mod Authorization
+pub mod Lubs
+pub mod Older
+pub mod Substitution
+pub mod Refusals
