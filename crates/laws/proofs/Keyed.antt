@@ -5,7 +5,7 @@ use mathlib.Core.List.{List, [], _∷_}
 use mathlib.Core.Option.{some, none}
 use native.Mathlib.Omega.{arith}
 use Rattle.std.proofs.shelf.Tests.{and-parts, and-from}
-use Rattle.spec.specs.Basics.{Text, same, less, insert, find, ascending}
+use Rattle.spec.specs.Basics.{Text, same, less, insert, find, remove, ascending}
 use Rattle.laws.proofs.Texts.{none-some, same-true, same-refl, less-tri, less-trans, less-not}
 
 module _ {A : Type 0} (key : A → Text) where
@@ -78,6 +78,24 @@ module _ {A : Type 0} (key : A → Text) where
       go true d hc hd ih = ((hc, before-trans (key a) (key x) bs hc (h .0)), h)
       go false true hc hd ih = (before-insert (key x) a bs hd (h .0), ih)
       go false false hc hd ih = (rw (less-tri (key a) (key x) hc hd) (h .0), h .1)
+
+  before-remove : (s t : Text) (bs : List A) → Before s bs → Before s (remove key t bs)
+  unfolding remove
+  before-remove s t [] b = tt
+  before-remove s t (x ∷ bs) b = go (same t (key x)) (before-remove s t bs (b .1))
+    where
+      go : (c : Bool) → Before s (remove key t bs) → Before s (cond c bs (x ∷ remove key t bs))
+      go true ih = b .1
+      go false ih = (b .0, ih)
+
+  pub sorted-remove : (t : Text) (bs : List A) → Sorted bs → Sorted (remove key t bs)
+  unfolding remove
+  sorted-remove t [] h = tt
+  sorted-remove t (x ∷ bs) h = go (same t (key x)) (sorted-remove t bs (h .1))
+    where
+      go : (c : Bool) → Sorted (remove key t bs) → Sorted (cond c bs (x ∷ remove key t bs))
+      go true ih = h .1
+      go false ih = (before-remove (key x) t bs (h .0), ih)
 
   pub not-found : (t : Text) (bs : List A) → Before t bs → find key t bs ≡ none
   unfolding find

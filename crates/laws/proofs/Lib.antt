@@ -8,3 +8,4 @@ pub mod Lubs
 pub mod Older
 pub mod Substitution
 pub mod Refusals
+pub mod Stores

@@ -6,10 +6,13 @@ use Prim.Native.Nat.{ℕ, zero, suc, _+_, _<_}
 use native.Mathlib.Omega.{arith}
 use lib.Dec.{eqb}
 use lib.ListN.{length}
-use Rattle.spec.specs.Basics.{Text, less, insert, name}
-use Rattle.spec.specs.Values.{nil, cons, empty, attr, elements, toValues, fields, toAttrs, code, lessValue}
+use Rattle.std.proofs.shelf.Tests.{and-parts, and-from}
+use Rattle.spec.specs.Basics.{Text, same, less, insert, name}
+use Rattle.spec.specs.Values.{EntityUID, sameUID, nil, cons, empty, attr, elements, toValues, fields, toAttrs, code, lessValue}
 use Rattle.spec.specs.Evaluate.{anySuffix, startsWith, matches}
-use Rattle.laws.specs.Bridges.{withValue, InsertValue, withAttr, InsertAttr, matchesBy, LikeByFuel}
+use Rattle.laws.specs.Bridges.{withValue, InsertValue, withAttr, InsertAttr, matchesBy, LikeByFuel, SameByParts}
+use Rattle.laws.proofs.Texts.{bool-same, same-true, same-refl}
+use Rattle.laws.proofs.Codes.{sameUID-true, sameUID-refl}
 use Rattle.laws.proofs.Lists.{values-elements, attrs-fields}
 
 pub insert-value : InsertValue
@@ -55,3 +58,12 @@ enough (suc n) (p ∷ ps) (t ∷ ts) h =
 
 pub like-by-fuel : LikeByFuel
 like-by-fuel p t = enough (suc (length p + length t)) p t (omega arith)
+
+-- ---- names of entities
+pub same-by-parts : SameByParts
+same-by-parts u v = bool-same _ _ (λ h. parts (sameUID-true u v h)) (λ h. whole (and-parts (same (u .ty) (v .ty)) (same (u .eid) (v .eid)) h))
+  where
+    parts : u ≡ v → (same (u .ty) (v .ty) && same (u .eid) (v .eid)) ≡ true
+    parts e = rw e (and-from _ _ (same-refl (v .ty)) (same-refl (v .eid)))
+    whole : (same (u .ty) (v .ty) ≡ true) × (same (u .eid) (v .eid) ≡ true) → sameUID u v ≡ true
+    whole (a, b) = rw (same-true (u .ty) (v .ty) a, same-true (u .eid) (v .eid) b) (sameUID-refl v)

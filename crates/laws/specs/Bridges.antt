@@ -1,12 +1,12 @@
--- Older forms of some definitions, and that they say the same: sets and records that insert by themselves, and `like` by fuel.
+-- Older forms of some definitions, and that they say the same: sets and records that insert by themselves, `like` by fuel, names by type and id.
 use mathlib.Core.Path.{_≡_}
 use mathlib.Core.Bool.{Bool, true, false, cond, _&&_, _||_}
 use mathlib.Core.List.{List, [], _∷_}
 use Prim.Native.Nat.{ℕ, zero, suc, _+_}
 use lib.Dec.{eqb}
 use lib.ListN.{length}
-use Rattle.spec.specs.Basics.{Text, less, insert, name}
-use Rattle.spec.specs.Values.{Value, Values, nil, cons, Attrs, empty, attr, elements, toValues, fields, toAttrs, code, lessValue}
+use Rattle.spec.specs.Basics.{Text, same, less, insert, name}
+use Rattle.spec.specs.Values.{EntityUID, sameUID, Value, Values, nil, cons, Attrs, empty, attr, elements, toValues, fields, toAttrs, code, lessValue}
 use Rattle.spec.specs.Evaluate.{matches}
 
 -- one more element of a set
@@ -35,3 +35,7 @@ matchesBy (suc n) (p ∷ ps) (t ∷ ts) = cond (eqb p 256) (matchesBy n ps (t �
 
 abbrev pub LikeByFuel : Type 0
 LikeByFuel = (p : List ℕ) (t : Text) → matchesBy (suc (length p + length t)) p t ≡ matches p t
+
+-- names of entities are the same just if types and ids are
+abbrev pub SameByParts : Type 0
+SameByParts = (u v : EntityUID) → sameUID u v ≡ (same (u .ty) (v .ty) && same (u .eid) (v .eid))

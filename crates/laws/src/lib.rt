@@ -1,6 +1,6 @@
 // The theorems about the definitions: each is the contract of a small function, proved.
-ghost use Rattle.spec.specs.Promises.{AllowedJustIf, ForbidOverridesPermit, AllowedOnlyIfPermitted, DenyByDefault, OrderAndDuplicatesDontMatter, OneMorePolicy, ReasonsAndErrors, OnlyPoliciesAreNamed, SubstitutionKeepsMeaning, LubIsLeast, RefusedChangesNothing, ValuesAreOrdered, EqualByCode};
-ghost use Rattle.laws.specs.Bridges.{InsertValue, InsertAttr, LikeByFuel};
+ghost use Rattle.spec.specs.Promises.{AllowedJustIf, ForbidOverridesPermit, AllowedOnlyIfPermitted, DenyByDefault, OrderAndDuplicatesDontMatter, OneMorePolicy, ReasonsAndErrors, OnlyPoliciesAreNamed, StoreStaysOrdered, SubstitutionKeepsMeaning, LubIsLeast, RefusedChangesNothing, ValuesAreOrdered, EqualByCode};
+ghost use Rattle.laws.specs.Bridges.{InsertValue, InsertAttr, LikeByFuel, SameByParts};
 
 // Allowed just if some permit holds and no forbid.
 pub fn allowed_just_if() -> u8
@@ -110,6 +110,20 @@ pub fn like_by_fuel() -> u8
 // Only ids of policies are told, as reasons and as errors.
 pub fn only_policies_are_named() -> u8
     ensures { λ _. ⌜ OnlyPoliciesAreNamed ⌝ }
+{
+    0
+}
+
+// After any calls a store has a well-formed schema, its policies and entities are in order, and it is within its capacity.
+pub fn store_stays_ordered() -> u8
+    ensures { λ _. ⌜ StoreStaysOrdered ⌝ }
+{
+    0
+}
+
+// Names of entities are the same just if types and ids are.
+pub fn same_by_parts() -> u8
+    ensures { λ _. ⌜ SameByParts ⌝ }
 {
     0
 }

@@ -63,7 +63,7 @@ abbrev pub isYes : {A : Type 0} → Dec A → Bool
 isYes (yes a) = true
 isYes (no n) = false
 
--- ---- texts are bytes
+-- ---- texts are bytes; a key, by which things are kept in order, is a row of numbers of the same type
 abbrev pub Text : Type 0
 Text = List ℕ
 

@@ -83,7 +83,7 @@ half = 9223372036854775808
 abbrev pub whole : ℕ
 whole = 18446744073709551616
 
--- the integer that n - 2^64 stands for, if it is one: from -2^63 to 2^63 - 1
+-- the integer n - 2^64, if it is one: from -2^63 to 2^63 - 1
 abbrev pub bounded : ℕ → Except Error Value
 bounded n = cond (leb half n && ltb n (half + whole)) (ok (ofInt (n - half))) (error arithBoundsError)
 

@@ -7,15 +7,15 @@ use mathlib.Core.Option.{some, none}
 use Prim.Native.Nat.{ℕ, _+_, _*_, _≤_}
 use lib.Dec.{eqb, ltb}
 use lib.ListN.{length}
-use Rattle.spec.specs.Basics.{Except, ok, error, isSome, any, all, Text, same, less}
-use Rattle.spec.specs.Values.{bool, int, string, entityUID, Value, prim, set, recordOf, sameValue, code, lessValue, Entities, Request}
+use Rattle.spec.specs.Basics.{Except, ok, error, isSome, any, all, Text, same, less, ascending}
+use Rattle.spec.specs.Values.{bool, int, string, entityUID, Value, prim, set, recordOf, sameValue, code, lessValue, Entities, entityKey, Request}
 use Rattle.spec.specs.Exprs.{Expr, substituteAction}
 use Rattle.spec.specs.Evaluate.{Error, entityDoesNotExist, attrDoesNotExist, tagDoesNotExist, typeError, arithBoundsError, evaluate}
-use Rattle.spec.specs.Policies.{Effect, permit, forbid, Policy, Policies, toExpr, satisfied, hasError, sameEffect, satisfiedWithEffect, Decision, allow, deny, isAuthorized}
+use Rattle.spec.specs.Policies.{Effect, permit, forbid, Policy, Policies, policyKey, toExpr, satisfied, hasError, sameEffect, satisfiedWithEffect, Decision, allow, deny, isAuthorized}
 use Rattle.spec.specs.Types.{CedarType, bool, recordOf, lub, Schema, RequestType}
 use Rattle.spec.specs.Typecheck.{Capabilities, typeOf}
 use Rattle.spec.specs.Validate.{wellFormed, typeEnv, validate, instanceOfType, validateRequest, validateEntities}
-use Rattle.spec.specs.Calls.{Call, Answer, Limits, Store, allBelow, encodable, refusal, answer, afterCall, storeAfter}
+use Rattle.spec.specs.Calls.{Call, putEntity, Answer, Limits, Store, sizeStore, admissible, allBelow, encodable, refusal, answer, afterCall, storeAfter}
 
 -- ---- an engine: its memory, which is numbers, what a call leaves there, and what it answers
 pub record Engine : Type 0 where
@@ -176,6 +176,19 @@ LubIsLeast =
 -- ---- 8. a call that is refused changes nothing
 abbrev pub RefusedChangesNothing : Type 0
 RefusedChangesNothing = (l : Limits) (s : Store) (c : Call) → isSome (refusal l s c) ≡ true → afterCall l s c ≡ s
+
+-- ---- what is always so of a store: its schema is well-formed, policies and entities are in order, each once, with canonical values, and it is no larger
+-- than its capacity
+pub record Ordered (l : Limits) (s : Store) : Type 0 where
+  pub schema : wellFormed (s .schema) ≡ true
+  pub policies : ascending policyKey (s .policies) ≡ true
+  pub ids : DifferentIds (s .policies)
+  pub entities : ascending entityKey (s .entities) ≡ true
+  pub admitted : all (λ e. admissible (putEntity e)) (s .entities) ≡ true
+  pub fits : sizeStore s ≤ l .capacity
+
+abbrev pub StoreStaysOrdered : Type 0
+StoreStaysOrdered = (l : Limits) (cs : List Call) → Ordered l (storeAfter l cs)
 
 -- ---- the order of values: of two that are not equal just one is less
 abbrev pub ValuesAreOrdered : Type 0

@@ -1,0 +1,5 @@
+-- The definitions that the contracts cite.
+pub mod Quotes
+pub mod Answers
+pub mod Parts
+pub mod Results

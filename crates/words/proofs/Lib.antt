@@ -1,0 +1,2 @@
+-- What other crates' proofs take from here.
+pub mod Round
