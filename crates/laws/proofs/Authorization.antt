@@ -10,7 +10,7 @@ use Rattle.spec.specs.Evaluate.{Error}
 use Rattle.spec.specs.Policies.{Effect, permit, forbid, Policy, Policies, isTrue, isError, satisfied, hasError, sameEffect, satisfiedWithEffect, idsWhere, satisfiedPolicies, errorPolicies, Decision, allow, deny, Response, isAuthorized}
 use Rattle.spec.specs.Promises.{Among, isAllow, someSatisfied, DifferentIds, decidingEffect, hasText, allTexts, AllowedJustIf, ForbidOverridesPermit, AllowedOnlyIfPermitted, DenyByDefault, OrderAndDuplicatesDontMatter, OneMorePolicy, ReasonsAndErrors, OnlyPoliciesAreNamed}
 use Rattle.laws.proofs.Texts.{false-true, same-true, same-refl, bool-same}
-use Rattle.laws.proofs.Lists.{any-among, among-any}
+use Rattle.laws.proofs.Found.{any-at, any-from}
 use Rattle.laws.proofs.Ids.{has-id, no-ids, same-ids, more-ids}
 
 -- ---- 1. allowed just if
@@ -94,7 +94,7 @@ one-more-policy q es p ps = (
 -- if ids differ, the id of a policy is told just if the test holds of it
 own-id : (f : Policy → Bool) (p : Policy) (ps : Policies) → DifferentIds ps → Among p ps → hasText (p .id) (idsWhere f ps) ≡ f p
 own-id f p ps d a =
-    has-id f (p .id) ps ∙ bool-same _ _ (λ h. there (any-among (λ x. f x && same (p .id) (x .id)) ps h)) (λ h. among-any (λ x. f x && same (p .id) (x .id)) p ps a (and-from _ _ h (same-refl (p .id))))
+    has-id f (p .id) ps ∙ bool-same _ _ (λ h. there (any-at (λ x. f x && same (p .id) (x .id)) ps h)) (λ h. any-from (λ x. f x && same (p .id) (x .id)) p ps a (and-from _ _ h (same-refl (p .id))))
   where
     there : (x : Policy) × Among x ps × ((f x && same (p .id) (x .id)) ≡ true) → f p ≡ true
     there (x, b, c) = let (h, k) = and-parts (f x) (same (p .id) (x .id)) c in rw (d p x a b k) h
@@ -125,7 +125,7 @@ reasons-and-errors q es ps p d a = (because, wrongs, (λ h. wrongs ∙ no-error 
 
 -- an id that is told is a policy's
 named : (f : Policy → Bool) (t : Text) (ps : Policies) → hasText t (idsWhere f ps) ≡ true → (p : Policy) × Among p ps × (t ≡ p .id)
-named f t ps h = let (p, a, c) = any-among (λ x. f x && same t (x .id)) ps (sym (has-id f t ps) ∙ h) in (p, a, same-true t (p .id) (and-parts (f p) (same t (p .id)) c .1))
+named f t ps h = let (p, a, c) = any-at (λ x. f x && same t (x .id)) ps (sym (has-id f t ps) ∙ h) in (p, a, same-true t (p .id) (and-parts (f p) (same t (p .id)) c .1))
 
 pub only-policies-are-named : OnlyPoliciesAreNamed
 unfolding isAuthorized

@@ -9,7 +9,7 @@ use Rattle.spec.specs.Policies.{Policy, Policies, idsWhere}
 use Rattle.spec.specs.Promises.{AllAmong, hasText, allTexts}
 use Rattle.laws.proofs.Texts.{same-true, same-refl}
 use Rattle.laws.proofs.Keyed.{Sorted, find-insert, sorted-insert, same-finds}
-use Rattle.laws.proofs.Lists.{any-same}
+use Rattle.laws.proofs.Found.{any-same}
 
 -- what is found by a text is that text
 find-itself : (t : Text) (xs : List Text) → find itself t xs ≡ cond (hasText t xs) (some t) none

@@ -1,11 +1,25 @@
+-- The lemmas, each file after those that it uses.
 pub mod Texts
 pub mod Codes
 pub mod Keyed
 pub mod Lists
+pub mod Found
+pub mod Lubs
 pub mod Ids
 pub mod Authorization
-pub mod Lubs
-pub mod Older
 pub mod Substitution
 pub mod Refusals
 pub mod Stores
+pub mod Older
+pub mod Fits
+pub mod Capabilities
+pub mod Instances
+pub mod Joins
+pub mod Setting
+pub mod Operators
+pub mod Attributes
+pub mod Sets
+pub mod Tags
+pub mod Membership
+pub mod Soundness
+pub mod Validation

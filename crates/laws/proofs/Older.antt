@@ -8,7 +8,7 @@ use lib.Dec.{eqb}
 use lib.ListN.{length}
 use Rattle.std.proofs.shelf.Tests.{and-parts, and-from}
 use Rattle.spec.specs.Basics.{Text, same, less, insert, name}
-use Rattle.spec.specs.Values.{EntityUID, sameUID, nil, cons, empty, attr, elements, toValues, fields, toAttrs, code, lessValue}
+use Rattle.spec.specs.Values.{sameUID, nil, cons, empty, attr, elements, toValues, fields, toAttrs, code, lessValue}
 use Rattle.spec.specs.Evaluate.{anySuffix, startsWith, matches}
 use Rattle.laws.specs.Bridges.{withValue, InsertValue, withAttr, InsertAttr, matchesBy, LikeByFuel, SameByParts}
 use Rattle.laws.proofs.Texts.{bool-same, same-true, same-refl}
@@ -65,5 +65,6 @@ same-by-parts u v = bool-same _ _ (λ h. parts (sameUID-true u v h)) (λ h. whol
   where
     parts : u ≡ v → (same (u .ty) (v .ty) && same (u .eid) (v .eid)) ≡ true
     parts e = rw e (and-from _ _ (same-refl (v .ty)) (same-refl (v .eid)))
+
     whole : (same (u .ty) (v .ty) ≡ true) × (same (u .eid) (v .eid) ≡ true) → sameUID u v ≡ true
     whole (a, b) = rw (same-true (u .ty) (v .ty) a, same-true (u .eid) (v .eid) b) (sameUID-refl v)

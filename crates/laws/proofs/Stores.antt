@@ -1,6 +1,6 @@
 -- What is always so of a store: order, each key once, canonical values, and a size within the capacity.
-use mathlib.Core.Path.{_≡_, refl, sym, ap, _∙_}
-use mathlib.Core.Bool.{Bool, true, false, cond, _&&_, _||_}
+use mathlib.Core.Path.{_≡_, refl, sym, _∙_}
+use mathlib.Core.Bool.{Bool, true, false, cond, _&&_}
 use mathlib.Core.List.{List, [], _∷_}
 use mathlib.Core.Logic.{inl, inr}
 use mathlib.Core.Option.{Option, some, none}
@@ -9,11 +9,12 @@ use native.Mathlib.Omega.{arith}
 use Rattle.std.proofs.shelf.Tests.{and-parts, and-from, leb-true}
 use Rattle.spec.specs.Basics.{all, Text, same, less, insert, remove, ascending}
 use Rattle.spec.specs.Values.{entityKey, codeUID}
-use Rattle.spec.specs.Policies.{Policy, policyKey}
+use Rattle.spec.specs.Policies.{policyKey}
 use Rattle.spec.specs.Validate.{wellFormed}
-use Rattle.spec.specs.Calls.{Call, setSchema, putPolicy, removePolicy, putEntity, removeEntity, validatePolicies, authorize, malformed, Limits, Store, emptyStore, sumOf, sizePolicy, sizeEntity, sizeStore, changed, Refusal, inadmissible, schemaNotWellFormed, overCapacity, admissible, fits, unless, refusedBy, supported, refusal, afterBy, afterCall, storeAfter}
+use Rattle.spec.specs.Calls.{Call, setSchema, putPolicy, removePolicy, putEntity, removeEntity, validatePolicies, authorize, malformed, Limits, Store, sumOf, sizePolicy, sizeEntity, sizeStore, changed, Refusal, inadmissible, schemaNotWellFormed, overCapacity, admissible, fits, unless, refusedBy, supported, refusal, afterBy, afterCall, storeAfter}
 use Rattle.spec.specs.Promises.{Among, DifferentIds, Ordered, StoreStaysOrdered}
 use Rattle.laws.proofs.Texts.{false-true, none-some, same-true, same-refl, less-not}
+use Rattle.laws.proofs.Found.{all-at, all-from, among-insert}
 use Rattle.laws.proofs.Keyed.{Before, Sorted, ascending-sorted, sorted-ascending, sorted-insert, sorted-remove}
 
 module _ {A : Type 0} (key : A → Text) where
@@ -24,14 +25,7 @@ module _ {A : Type 0} (key : A → Text) where
   ascending-remove t bs h = sorted-ascending key _ (sorted-remove key t bs (ascending-sorted key bs h))
 
   all-insert : (f : A → Bool) (a : A) (bs : List A) → f a ≡ true → all f bs ≡ true → all f (insert key a bs) ≡ true
-  unfolding insert
-  all-insert f a [] h k = rw h
-  all-insert f a (b ∷ bs) h k = let p = and-parts (f b) (all f bs) k in go (less (key a) (key b)) (less (key b) (key a)) (p .0) (p .1) (all-insert f a bs h (p .1))
-    where
-      go : (x y : Bool) → f b ≡ true → all f bs ≡ true → all f (insert key a bs) ≡ true → all f (cond x (a ∷ (b ∷ bs)) (cond y (b ∷ insert key a bs) (a ∷ bs))) ≡ true
-      go true y hb hs ih = and-from _ _ h (and-from _ _ hb hs)
-      go false true hb hs ih = and-from _ _ hb ih
-      go false false hb hs ih = and-from _ _ h hs
+  all-insert f a bs h k = all-from f _ (λ x m. elim (among-insert key x a bs m) [ inl e ↦ rw e h | inr n ↦ all-at f x bs k n ])
 
   all-remove : (f : A → Bool) (t : Text) (bs : List A) → all f bs ≡ true → all f (remove key t bs) ≡ true
   unfolding remove

@@ -1,5 +1,5 @@
 // The theorems about the definitions: each is the contract of a small function, proved.
-ghost use Rattle.spec.specs.Promises.{AllowedJustIf, ForbidOverridesPermit, AllowedOnlyIfPermitted, DenyByDefault, OrderAndDuplicatesDontMatter, OneMorePolicy, ReasonsAndErrors, OnlyPoliciesAreNamed, StoreStaysOrdered, SubstitutionKeepsMeaning, LubIsLeast, RefusedChangesNothing, ValuesAreOrdered, EqualByCode};
+ghost use Rattle.spec.specs.Promises.{AllowedJustIf, ForbidOverridesPermit, AllowedOnlyIfPermitted, DenyByDefault, OrderAndDuplicatesDontMatter, OneMorePolicy, ReasonsAndErrors, OnlyPoliciesAreNamed, StoreStaysOrdered, TypecheckingIsSound, ValidationIsSound, SubstitutionKeepsMeaning, LubIsLeast, RefusedChangesNothing, ValuesAreOrdered, EqualByCode};
 ghost use Rattle.laws.specs.Bridges.{InsertValue, InsertAttr, LikeByFuel, SameByParts};
 
 // Allowed just if some permit holds and no forbid.
@@ -124,6 +124,20 @@ pub fn store_stays_ordered() -> u8
 // Names of entities are the same just if types and ids are.
 pub fn same_by_parts() -> u8
     ensures { λ _. ⌜ SameByParts ⌝ }
+{
+    0
+}
+
+// What has a type comes to a value of that type, or fails for an entity that is not there or a number out of bounds.
+pub fn typechecking_is_sound() -> u8
+    ensures { λ _. ⌜ TypecheckingIsSound ⌝ }
+{
+    0
+}
+
+// A policy that is validated comes to a truth, or fails for an entity that is not there or a number out of bounds, if request and entities fit.
+pub fn validation_is_sound() -> u8
+    ensures { λ _. ⌜ ValidationIsSound ⌝ }
 {
     0
 }
