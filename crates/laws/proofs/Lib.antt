@@ -10,6 +10,7 @@ pub mod Authorization
 pub mod Substitution
 pub mod Refusals
 pub mod Stores
+pub mod Arithmetic
 pub mod Older
 pub mod Fits
 pub mod Capabilities

@@ -1,5 +1,5 @@
 // The theorems about the definitions: each is the contract of a small function, proved.
-ghost use Rattle.spec.specs.Promises.{AllowedJustIf, ForbidOverridesPermit, AllowedOnlyIfPermitted, DenyByDefault, OrderAndDuplicatesDontMatter, OneMorePolicy, ReasonsAndErrors, OnlyPoliciesAreNamed, StoreStaysOrdered, TypecheckingIsSound, ValidationIsSound, SubstitutionKeepsMeaning, LubIsLeast, RefusedChangesNothing, ValuesAreOrdered, EqualByCode};
+ghost use Rattle.spec.specs.Promises.{AllowedJustIf, ForbidOverridesPermit, AllowedOnlyIfPermitted, DenyByDefault, OrderAndDuplicatesDontMatter, OneMorePolicy, ReasonsAndErrors, OnlyPoliciesAreNamed, StoreStaysOrdered, ArithmeticIsExact, FailsOutOfBounds, TypecheckingIsSound, ValidationIsSound, SubstitutionKeepsMeaning, LubIsLeast, RefusedChangesNothing, ValuesAreOrdered, EqualByCode};
 ghost use Rattle.laws.specs.Bridges.{InsertValue, InsertAttr, LikeByFuel, SameByParts};
 
 // Allowed just if some permit holds and no forbid.
@@ -138,6 +138,20 @@ pub fn typechecking_is_sound() -> u8
 // A policy that is validated comes to a truth, or fails for an entity that is not there or a number out of bounds, if request and entities fit.
 pub fn validation_is_sound() -> u8
     ensures { λ _. ⌜ ValidationIsSound ⌝ }
+{
+    0
+}
+
+// Sums, differences, products and negations come to the right integers, within 64 bits.
+pub fn arithmetic_is_exact() -> u8
+    ensures { λ _. ⌜ ArithmeticIsExact ⌝ }
+{
+    0
+}
+
+// They fail only if the right integer is out of bounds.
+pub fn fails_out_of_bounds() -> u8
+    ensures { λ _. ⌜ FailsOutOfBounds ⌝ }
 {
     0
 }

@@ -4,13 +4,13 @@ use mathlib.Core.Bool.{Bool, true, false, not as flip, _&&_, _||_}
 use mathlib.Core.List.{List, [], _∷_}
 use mathlib.Core.Logic.{_⊎_}
 use mathlib.Core.Option.{some, none}
-use Prim.Native.Nat.{ℕ, _+_, _*_, _≤_}
+use Prim.Native.Nat.{ℕ, _+_, _*_, _≤_, _<_}
 use lib.Dec.{eqb, ltb}
 use lib.ListN.{length}
 use Rattle.spec.specs.Basics.{Except, ok, error, isSome, any, all, Text, same, less, ascending}
 use Rattle.spec.specs.Values.{bool, int, string, entityUID, Value, prim, set, recordOf, sameValue, code, lessValue, Entities, entityKey, Request}
 use Rattle.spec.specs.Exprs.{Expr, substituteAction}
-use Rattle.spec.specs.Evaluate.{Error, entityDoesNotExist, attrDoesNotExist, tagDoesNotExist, typeError, arithBoundsError, evaluate}
+use Rattle.spec.specs.Evaluate.{Error, entityDoesNotExist, attrDoesNotExist, tagDoesNotExist, typeError, arithBoundsError, ofInt, half, whole, sum, difference, isNegative, magnitude, differ, product, negation, evaluate}
 use Rattle.spec.specs.Policies.{Effect, permit, forbid, Policy, Policies, policyKey, toExpr, satisfied, hasError, sameEffect, satisfiedWithEffect, Decision, allow, deny, isAuthorized}
 use Rattle.spec.specs.Types.{CedarType, bool, recordOf, lub, Schema, RequestType}
 use Rattle.spec.specs.Typecheck.{Capabilities, typeOf}
@@ -176,6 +176,24 @@ LubIsLeast =
 -- ---- 8. a call that is refused changes nothing
 abbrev pub RefusedChangesNothing : Type 0
 RefusedChangesNothing = (l : Limits) (s : Store) (c : Call) → isSome (refusal l s c) ≡ true → afterCall l s c ≡ s
+
+-- ---- integers: what sums, differences, products and negations come to are integers of 64 bits again, and the right ones; i stands for i - 2^63
+abbrev pub ArithmeticIsExact : Type 0
+ArithmeticIsExact =
+    (i j n : ℕ) → i < whole → j < whole →
+    (sum i j ≡ ok (ofInt n) → (n < whole) × (n + half ≡ i + j))
+    × (difference i j ≡ ok (ofInt n) → (n < whole) × (n + j ≡ i + half))
+    × (product i j ≡ ok (ofInt n) → (n < whole) × (magnitude n ≡ magnitude i * magnitude j) × (0 < magnitude n → isNegative n ≡ differ (isNegative i) (isNegative j)))
+    × (negation i ≡ ok (ofInt n) → (n < whole) × (n + i ≡ whole))
+
+-- and they fail just if the right one has no place in 64 bits
+abbrev pub FailsOutOfBounds : Type 0
+FailsOutOfBounds =
+    (i j : ℕ) (e : Error) → i < whole → j < whole →
+    (sum i j ≡ error e → (i + j < half) ⊎ (half + whole ≤ i + j))
+    × (difference i j ≡ error e → (i + half < j) ⊎ (j + half ≤ i))
+    × (product i j ≡ error e → half ≤ magnitude i * magnitude j)
+    × (negation i ≡ error e → i ≡ 0)
 
 -- ---- what is always so of a store: its schema is well-formed, policies and entities are in order, each once, with canonical values, and it is no larger
 -- than its capacity
