@@ -1,0 +1,5 @@
+pub mod Read
+pub mod Tags
+pub mod Grammar
+pub mod Sizes
+pub mod Reading
