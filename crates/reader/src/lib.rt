@@ -1,0 +1,3 @@
+// Reads calls off bytes.
+pub mod grammar;
+pub mod scan;
