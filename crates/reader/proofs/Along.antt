@@ -1,21 +1,20 @@
 -- What is read at a place, step by step.
-use mathlib.Core.Path.{_≡_, refl, sym, _∙_, ap, subst}
+use mathlib.Core.Path.{_≡_, refl, sym, _∙_, ap}
 use mathlib.Core.Bool.{Bool, true, false, cond}
 use mathlib.Core.List.{List, [], _∷_}
-use mathlib.Core.Option.{Option, some, none}
+use mathlib.Core.Option.{some, none}
 use Prim.Native.Nat.{ℕ, zero, suc, _+_, _-_, _*_, _≤_, _<_}
 use native.Mathlib.Nat.{zero-add}
 use native.Mathlib.Omega.{arith}
-use lib.Dec.{leb, eqb}
-use lib.ListN.{length, getD, take, drop}
+use lib.Dec.{leb}
+use lib.ListN.{length, getD, drop}
 use Rattle.std.proofs.shelf.Tests.{le-leb, lt-leb, ne-eqb, cond-true, cond-false}
 use Rattle.std.proofs.shelf.Lists.{length-drop, drop-more, drop-drop, drop-all, length-take-le}
-use Rattle.std.specs.declared.result.Result.{Result}
 use Rattle.std.specs.declared.result.Result.the-variants.{Ok, Err}
 use Rattle.spec.specs.Bytes.{Bytes}
 use Rattle.spec.specs.Calls.{sizeText, sumOf}
 use Rattle.reader.specs.declared.scan.Found.{Found}
-use Rattle.wire.specs.Read.{Read, got, stops, past, turn, follow, bigEndian, readWord, readRun, readText, readElements, readPattern, nth, gotOne, readOne, next, readList}
+use Rattle.wire.specs.Read.{Read, got, stops, past, turn, follow, bigEndian, readWord, readRun, readText, readElements, readPattern, nth, readOne, next, readList}
 use Rattle.reader.specs.Found.{found, taken}
 
 -- ---- words

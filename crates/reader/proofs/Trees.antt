@@ -1,8 +1,8 @@
 -- A tree is read by its form, and then field by field.
 use mathlib.Core.Path.{_≡_, refl, sym, _∙_, ap, subst}
-use mathlib.Core.Bool.{Bool, true, false, cond, _&&_}
+use mathlib.Core.Bool.{Bool, true, false, _&&_}
 use mathlib.Core.List.{List, [], _∷_, map}
-use mathlib.Core.Option.{Option, some, none}
+use mathlib.Core.Option.{some, none}
 use Prim.Native.Nat.{ℕ, zero, suc, _+_, _-_, _≤_, _<_}
 use native.Mathlib.Omega.{arith}
 use denote.Ref.{now}
@@ -16,21 +16,18 @@ use Rattle.spec.specs.Bytes.{Bytes}
 use Rattle.reader.specs.declared.grammar.Field.{Field as CodeField}
 use Rattle.reader.specs.declared.scan.Found.{Found}
 use Rattle.reader.specs.declared.scan.Opened.{Opened}
-use Rattle.wire.specs.Read.{Read, got, stops, turn, follow, nth, gotOne}
-use Rattle.wire.specs.Grammar.{Kind, value, expr, type, scope, actionScope, uid, attrs, recordType, condition, entity, entityEntry, actionEntry, request, Tag, Fields, Reader, admitted, readTagOf, readTag, readField, readFields, readNode, fields, make, valueTags, innerValue, valueFields, exprTags, innerExpr, exprFields, typeTags, innerType, typeFields, scopeTags, scopeFields, actionScopeTags, actionScopeFields}
+use Rattle.wire.specs.Read.{Read, got, stops, turn, nth}
+use Rattle.wire.specs.Grammar.{Kind, value, expr, type, scope, actionScope, uid, attrs, recordType, condition, entity, entityEntry, actionEntry, request, Tag, Fields, Reader, readTagOf, readTag, readField, readFields, readNode, fields, make, valueTags, innerValue, valueFields, exprTags, innerExpr, exprFields, typeTags, innerType, typeFields, scopeTags, scopeFields, actionScopeTags, actionScopeFields}
 use Rattle.wire.specs.Sizes.{sizeTree, sizeField, sizeFields}
-use Rattle.reader.specs.Code.{fieldOf, fieldsOf, isPart, isSmall, parts, smalls, KindForms, onlyForm, byTag, formsIn}
+use Rattle.reader.specs.Code.{fieldOf, fieldsOf, isPart, isSmall, parts, smalls, onlyForm, byTag, formsIn}
 use Rattle.reader.specs.Found.{found, Opens}
 use Rattle.wire.proofs.Forms.{size-make}
-use Rattle.reader.proofs.Along.{found-turn, follow-got, follow-stops, follow-ok, follow-err, same-err, same-size, more-ok, nth-out}
+use Rattle.reader.proofs.Along.{found-turn, follow-got, follow-stops, follow-ok, follow-err, same-err, same-size, more-ok}
 
 -- ---- field by field: what is left of the fields, behind what has the size m
 module _ (r : Reader) (bs : Bytes) where
   abbrev pub left : ℕ → List CodeField → ℕ → Result Found ℕ
   left m fs at = found (λ c. m + sizeFields (fieldsOf fs) c) at (readFields r (fieldsOf fs) (drop at bs))
-
-  pub left-all : (fs : List CodeField) (at : ℕ) → left 0 fs at ≡ found (sizeFields (fieldsOf fs)) at (readFields r (fieldsOf fs) (drop at bs))
-  left-all fs at = same-size _ _ at (λ c. omega arith) _
 
   pub left-none : (m at : ℕ) → Ok (record { end = at; size = m }) ≡ left m [] at
   left-none m at =

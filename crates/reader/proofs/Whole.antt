@@ -1,11 +1,10 @@
 -- A whole call is its number, the fields of that number, and nothing behind them.
 use mathlib.Core.Path.{_≡_, refl, sym, _∙_, ap, subst}
-use mathlib.Core.Bool.{Bool, true, false, cond}
-use mathlib.Core.List.{List, [], _∷_, map}
-use mathlib.Core.Option.{Option, some, none}
+use mathlib.Core.Bool.{Bool, false}
+use mathlib.Core.List.{List, map}
+use mathlib.Core.Option.{some}
 use Prim.Native.Nat.{ℕ, zero, suc, _+_, _≤_, _<_}
 use native.Mathlib.Omega.{arith}
-use lib.Dec.{eqb}
 use lib.ListN.{length, getD, drop}
 use Rattle.std.proofs.shelf.Tests.{ne-eqb, eq-eqb}
 use Rattle.std.proofs.shelf.Lists.{getD-map, length-map, nil-from-length}
@@ -14,14 +13,13 @@ use Rattle.std.specs.declared.result.Result.the-variants.{Ok, Err}
 use Rattle.spec.specs.Bytes.{Bytes}
 use Rattle.reader.specs.declared.grammar.Form.{Form}
 use Rattle.reader.specs.declared.scan.Found.{Found}
-use Rattle.reader.specs.declared.scan.Scanned.{Scanned}
-use Rattle.wire.specs.Read.{Read, got, stops, past, turn, follow, nth, readOne}
+use Rattle.wire.specs.Read.{Read, got, stops, past, turn, nth, readOne}
 use Rattle.wire.specs.Tags.{CallTag, setSchemaTag, putPolicyTag, removePolicyTag, putEntityTag, removeEntityTag, validateTag, authorizeTag}
 use Rattle.wire.specs.Grammar.{Fields, Contents, callTags, callFields, makeCall, readFields, readNode, callHeight, readCall, whole, decode}
 use Rattle.wire.specs.Sizes.{sizeFields}
 use Rattle.reader.specs.Code.{fieldsOf, rowOf, tableOf}
 use Rattle.reader.specs.Found.{found, scanned}
-use Rattle.reader.proofs.Along.{one-end, one-other, one-there}
+use Rattle.reader.proofs.Along.{one-other, one-there}
 use Rattle.reader.proofs.Trees.{row-at}
 
 -- ---- by its number

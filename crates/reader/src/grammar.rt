@@ -82,6 +82,23 @@ pub enum Forms {
     ByTag(&'static [Form]),
 }
 
+// The fields that stand in many forms.
+const UID: Field = Node(Kind::Uid);
+
+const ATTRS: Field = Node(Kind::Attrs);
+
+const EXPR: Field = Node(Kind::Expr);
+
+const TYPE: Field = Node(Kind::Type);
+
+const VALUE: Field = Node(Kind::Value);
+
+const SCOPE: Field = Node(Kind::Scope);
+
+const RECORD_TYPE: Field = Node(Kind::RecordType);
+
+const TRUTH: Field = Field::Small(Small::Truth);
+
 macro_rules! leaf {
     ($($field:expr),*) => { Form { inner: false, fields: &[$($field),*] } };
 }
@@ -109,13 +126,13 @@ pub fn item_fields(items: Items) -> &'static [Field]
     ensures paid { λ r. ⌜ parts (fieldsOf (now r)) ≡ 0 ⌝ }
 {
     match items {
-        Items::Values => &[Node(Kind::Value)],
-        Items::NamedValues => &[Text, Node(Kind::Value)],
-        Items::Exprs => &[Node(Kind::Expr)],
-        Items::NamedExprs => &[Text, Node(Kind::Expr)],
-        Items::Types => &[Node(Kind::Type)],
-        Items::NamedTypes => &[Field::Small(Small::Truth), Text, Node(Kind::Type)],
-        Items::Uids => &[Node(Kind::Uid)],
+        Items::Values => &[VALUE],
+        Items::NamedValues => &[Text, VALUE],
+        Items::Exprs => &[EXPR],
+        Items::NamedExprs => &[Text, EXPR],
+        Items::Types => &[TYPE],
+        Items::NamedTypes => &[TRUTH, Text, TYPE],
+        Items::Uids => &[UID],
         Items::Texts => &[Text],
         Items::Conditions => &[Node(Kind::Condition)],
         Items::EntityEntries => &[Node(Kind::EntityEntry)],
@@ -127,7 +144,7 @@ fn value_forms() -> &'static [Form]
     ensures { λ r. ⌜ tableOf (now r) ≡ map (λ g. (innerValue g, valueFields g)) valueTags ⌝ }
 {
     &[
-        leaf!(Part, Field::Small(Small::Truth)),
+        leaf!(Part, TRUTH),
         leaf!(Part, Word),
         leaf!(Text),
         leaf!(Text, Text),
@@ -140,27 +157,22 @@ fn expr_forms() -> &'static [Form]
     ensures { λ r. ⌜ tableOf (now r) ≡ map (λ g. (innerExpr g, exprFields g)) exprTags ⌝ }
 {
     &[
-        leaf!(Part, Field::Small(Small::Truth)),
+        leaf!(Part, TRUTH),
         leaf!(Part, Word),
         leaf!(Text),
         leaf!(Text, Text),
         leaf!(Part, Field::Small(Small::Variable)),
-        inner!(Part, Node(Kind::Expr), Node(Kind::Expr), Node(Kind::Expr)),
-        inner!(Part, Node(Kind::Expr), Node(Kind::Expr)),
-        inner!(Part, Node(Kind::Expr), Node(Kind::Expr)),
-        inner!(Part, Node(Kind::Expr)),
-        inner!(Part, Node(Kind::Expr)),
-        inner!(Part, Node(Kind::Expr)),
-        inner!(Pattern, Node(Kind::Expr)),
-        inner!(Text, Node(Kind::Expr)),
-        inner!(
-            Part,
-            Field::Small(Small::Operator),
-            Node(Kind::Expr),
-            Node(Kind::Expr)
-        ),
-        inner!(Text, Node(Kind::Expr)),
-        inner!(Text, Node(Kind::Expr)),
+        inner!(Part, EXPR, EXPR, EXPR),
+        inner!(Part, EXPR, EXPR),
+        inner!(Part, EXPR, EXPR),
+        inner!(Part, EXPR),
+        inner!(Part, EXPR),
+        inner!(Part, EXPR),
+        inner!(Pattern, EXPR),
+        inner!(Text, EXPR),
+        inner!(Part, Field::Small(Small::Operator), EXPR, EXPR),
+        inner!(Text, EXPR),
+        inner!(Text, EXPR),
         inner!(Part, List(Items::Exprs)),
         inner!(Part, List(Items::NamedExprs)),
     ]
@@ -174,7 +186,7 @@ fn type_forms() -> &'static [Form]
         leaf!(Part),
         leaf!(Part),
         leaf!(Text),
-        inner!(Part, Node(Kind::Type)),
+        inner!(Part, TYPE),
         inner!(Part, List(Items::NamedTypes)),
     ]
 }
@@ -184,10 +196,10 @@ fn scope_forms() -> &'static [Form]
 {
     &[
         leaf!(Part),
-        leaf!(Node(Kind::Uid)),
-        leaf!(Node(Kind::Uid)),
+        leaf!(UID),
+        leaf!(UID),
         leaf!(Text),
-        leaf!(Text, Node(Kind::Uid)),
+        leaf!(Text, UID),
     ]
 }
 
@@ -196,10 +208,10 @@ fn action_scope_forms() -> &'static [Form]
 {
     &[
         leaf!(Part),
-        leaf!(Node(Kind::Uid)),
-        leaf!(Node(Kind::Uid)),
+        leaf!(UID),
+        leaf!(UID),
         leaf!(Text),
-        leaf!(Text, Node(Kind::Uid)),
+        leaf!(Text, UID),
         leaf!(Part, List(Items::Uids)),
     ]
 }
@@ -216,42 +228,21 @@ pub fn forms_of(kind: Kind) -> Forms
         Kind::Uid => Forms::Only(&[Text, Text]),
         Kind::Attrs => Forms::Only(&[List(Items::NamedValues)]),
         Kind::RecordType => Forms::Only(&[List(Items::NamedTypes)]),
-        Kind::Condition => Forms::Only(
-            &[Part, Field::Small(Small::ConditionKind), Node(Kind::Expr)],
-        ),
-        Kind::Entity => Forms::Only(
-            &[
-                Node(Kind::Uid),
-                Node(Kind::Attrs),
-                List(Items::Uids),
-                Node(Kind::Attrs),
-            ],
-        ),
+        Kind::Condition => Forms::Only(&[Part, Field::Small(Small::ConditionKind), EXPR]),
+        Kind::Entity => Forms::Only(&[UID, ATTRS, List(Items::Uids), ATTRS]),
         Kind::EntityEntry => Forms::Only(
-            &[
-                Text,
-                List(Items::Texts),
-                Node(Kind::RecordType),
-                List(Items::Types),
-            ],
+            &[Text, List(Items::Texts), RECORD_TYPE, List(Items::Types)],
         ),
         Kind::ActionEntry => Forms::Only(
             &[
-                Node(Kind::Uid),
+                UID,
                 List(Items::Texts),
                 List(Items::Texts),
                 List(Items::Uids),
-                Node(Kind::RecordType),
+                RECORD_TYPE,
             ],
         ),
-        Kind::Request => Forms::Only(
-            &[
-                Node(Kind::Uid),
-                Node(Kind::Uid),
-                Node(Kind::Uid),
-                Node(Kind::Attrs),
-            ],
-        ),
+        Kind::Request => Forms::Only(&[UID, UID, UID, ATTRS]),
     }
 }
 
@@ -264,14 +255,14 @@ pub fn calls() -> &'static [Form]
         leaf!(
             Text,
             Field::Small(Small::Effect),
-            Node(Kind::Scope),
+            SCOPE,
             Node(Kind::ActionScope),
-            Node(Kind::Scope),
+            SCOPE,
             List(Items::Conditions)
         ),
         leaf!(Text),
         leaf!(Node(Kind::Entity)),
-        leaf!(Node(Kind::Uid)),
+        leaf!(UID),
         leaf!(),
         leaf!(Node(Kind::Request)),
     ]

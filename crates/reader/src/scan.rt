@@ -1,6 +1,7 @@
 // Finds where what the bytes say ends and how large it is, and copies nothing.
+// Every function takes all bytes and a place among them, and an error is the place of the first byte that can't stand there.
 ghost use mathlib.Core.Path.{_≡_};
-ghost use Prim.Native.Nat.{ℕ, _+_, _-_, _<_, _≤_};
+ghost use Prim.Native.Nat.{_+_, _≤_};
 ghost use lib.ListN.{length, drop};
 ghost use Rattle.spec.specs.Calls.{sizeText, sumOf};
 ghost use Rattle.wire.specs.Read.{bigEndian, readWord, readText, readPattern, readOne, readList};
@@ -17,8 +18,6 @@ use crate::grammar::choices_of;
 use crate::grammar::forms_of;
 use crate::grammar::item_fields;
 
-// Every function takes all bytes and a place among them, and an error is the place of the first byte that can't stand there.
-
 // What stands in a call is of at most this height: an expression in a condition is of depth 64.
 const CALL_HEIGHT: usize = 66;
 
@@ -28,6 +27,7 @@ pub struct Found {
     pub size: usize,
 }
 
+// Which fields a tree has, and where they start.
 #[derive(Clone, Copy)]
 pub struct Opened {
     pub start: usize,
@@ -40,6 +40,7 @@ pub struct Scanned {
     pub size: usize,
 }
 
+// The number of eight bytes.
 fn eight(bytes: &[u8], at: usize) -> u64
     requires { ⌜ at + 8 ≤ length (now bytes) ⌝ }
     ensures { λ r. ⌜ r ≡ bigEndian (drop at (now (bytes .entry))) ⌝ }
@@ -80,6 +81,7 @@ fn number(bytes: &[u8], at: usize) -> Result<Found, usize>
     })
 }
 
+// A byte that tells some few things apart.
 fn choice(bytes: &[u8], at: usize, small: Small) -> Result<Found, usize>
     requires { ⌜ at ≤ length (now bytes) ⌝ }
     ensures reads { λ r. ⌜ r ≡ found (λ _. 0) at (readOne (choices (smallOf small)) (drop at (now (bytes .entry)))) ⌝ }
@@ -142,7 +144,7 @@ fn pattern(bytes: &[u8], at: usize) -> Result<Found, usize>
     })
 }
 
-// Which fields a tree has, and where they start.
+// The form of a tree; one that is a level of depth has to have one left.
 pub(crate) fn opens(bytes: &[u8], at: usize, kind: Kind, height: usize) -> Result<Opened, usize>
     requires { ⌜ at ≤ length (now bytes) ⌝ }
     ensures reads { λ r. ⌜ Opens (kindOf kind) at (readTag (kindOf kind) height (drop at (now (bytes .entry)))) r ⌝ }

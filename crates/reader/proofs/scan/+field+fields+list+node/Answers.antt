@@ -1,6 +1,6 @@
-use mathlib.Core.Path.{_≡_, refl, sym, _∙_, ap, subst}
+use mathlib.Core.Path.{_≡_, sym, _∙_, ap, subst}
 use mathlib.Core.List.{List, []}
-use Prim.Native.Nat.{ℕ, _+_, _-_, _≤_, _<_}
+use Prim.Native.Nat.{ℕ, _+_, _≤_, _<_}
 use native.Mathlib.Omega.{arith}
 use lib.ListN.{length, getD, drop}
 use Rattle.std.proofs.shelf.Lists.{drop-more, drop-all}
@@ -8,17 +8,15 @@ use Rattle.std.proofs.shelf.Results.{err-from-errBy}
 use Rattle.std.specs.declared.result.Result.{Result}
 use Rattle.std.specs.declared.result.Result.the-variants.{Ok, Err}
 use Rattle.spec.specs.Bytes.{Bytes}
-use Rattle.spec.specs.Calls.{sumOf}
 use Rattle.reader.specs.declared.grammar.Field.{Field as CodeField}
 use Rattle.reader.specs.declared.grammar.Field.the-variants.{Part}
 use Rattle.reader.specs.declared.scan.Found.{Found}
-use Rattle.wire.specs.Read.{Read, readList}
 use Rattle.wire.specs.Grammar.{Field, part, small, word, text, pattern, node, list, Fields, Reader, readField, readFields, readNode}
 use Rattle.wire.specs.Sizes.{sizeField, sizeFields}
-use Rattle.reader.specs.Code.{kindOf, itemsOf, fieldOf, fieldsOf, isPart, isSmall, parts, smalls}
+use Rattle.reader.specs.Code.{kindOf, fieldOf, fieldsOf, isPart, isSmall, parts, smalls}
 use Rattle.reader.specs.Found.{found, WithinBy, Within}
 use Rattle.reader.proofs.Along
-use Rattle.reader.proofs.Trees.{left, left-all, left-none, left-ok, left-err, parts-more, smalls-more, node-opened, node-err, node-low}
+use Rattle.reader.proofs.Trees.{left, left-none, left-ok, left-err, parts-more, smalls-more, node-opened, node-err, node-low}
 use Rattle.reader.proofs.scan.+field+fields+list+node.Needs as need
 
 -- ---- a field, by what it is

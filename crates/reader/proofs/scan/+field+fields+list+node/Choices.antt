@@ -1,6 +1,6 @@
 -- What is left gives what all gives; a node takes a level of height, and an element of a list a byte.
 use mathlib.Core.Path.{_≡_}
-use Prim.Native.Nat.{ℕ, _+_, _-_, _*_, _≤_}
+use Prim.Native.Nat.{_+_, _-_, _*_, _≤_}
 use lib.ListN.{length, drop}
 use Rattle.spec.specs.Calls.{sumOf}
 use Rattle.wire.specs.Read.{readList}

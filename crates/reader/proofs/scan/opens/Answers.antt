@@ -1,18 +1,18 @@
 use mathlib.Core.Path.{_≡_, refl, sym, _∙_, ap}
 use mathlib.Core.Bool.{Bool, true, false, _&&_}
-use mathlib.Core.List.{List, [], _∷_, map}
+use mathlib.Core.List.{List, []}
 use Prim.Native.Nat.{ℕ, _+_, _≤_, _<_}
 use native.Mathlib.Omega.{arith}
 use lib.Dec.{eqb}
 use lib.ListN.{length, getD, drop}
 use Rattle.std.proofs.shelf.Lists.{drop-more, drop-all, getD-map, length-map}
-use Rattle.std.proofs.shelf.Tests.{ne-eqb, eq-eqb}
+use Rattle.std.proofs.shelf.Tests.{ne-eqb}
 use Rattle.spec.specs.Bytes.{Bytes}
 use Rattle.reader.specs.declared.grammar.Form.{Form}
 use Rattle.wire.specs.Read.{got, stops}
 use Rattle.wire.specs.Grammar.{Kind, Tag, Fields, readTag, fields}
-use Rattle.reader.specs.Code.{kindOf, fieldsOf, rowOf, tableOf, byTag, formsIn, parts, smalls}
-use Rattle.reader.proofs.Trees.{Tagged, tagged, untagged}
+use Rattle.reader.specs.Code.{kindOf, rowOf, tableOf, byTag, formsIn, parts, smalls}
+use Rattle.reader.proofs.Trees.{tagged, untagged}
 use Rattle.reader.proofs.scan.opens.Needs as need
 use Rattle.reader.proofs.scan.opens.Needs.{then-form·else-height-eq0, else-form}
 

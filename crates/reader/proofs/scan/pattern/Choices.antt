@@ -1,6 +1,6 @@
 -- What is left gives what all gives.
 use mathlib.Core.Path.{_≡_}
-use Prim.Native.Nat.{ℕ, _+_, _-_, _*_, _≤_}
+use Prim.Native.Nat.{_+_, _-_, _*_, _≤_}
 use lib.ListN.{length, drop}
 use Rattle.spec.specs.Calls.{sizeText}
 use Rattle.wire.specs.Read.{readElements, readPattern}
