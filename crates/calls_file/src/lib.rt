@@ -3,7 +3,8 @@ ghost use mathlib.Core.Path.{_≡_};
 ghost use mathlib.Core.List.{List, _++_};
 ghost use Prim.Native.Nat.{ℕ, _+_};
 ghost use lib.ListN.{length};
-ghost use Rattle.calls_file.specs.Frames.{frame, nextOf, Within};
+ghost use Rattle.spec.specs.Bytes.{encodeText};
+ghost use Rattle.calls_file.specs.Frames.{nextOf, Within};
 ghost use Rattle.calls_file.specs.Walk.{Walked};
 
 #[cfg(test)]
@@ -22,7 +23,7 @@ pub enum Next {
 pub fn next_call(file: &[u8], at: usize) -> Next
     ensures is { λ r. ⌜ r ≡ nextOf at (now (file .entry)) ⌝ }
     ensures within { λ r. ⌜ Within at (length (now (file .entry))) r ⌝ }
-    ensures reads { λ r. ⌜ ((before call rest : List ℕ) → now (file .entry) ≡ before ++ (frame call ++ rest) → length before ≡ at → r ≡ Next.Call (at + 8) (at + 8 + length call)) ⌝ }
+    ensures reads { λ r. ⌜ ((before call rest : List ℕ) → now (file .entry) ≡ before ++ (encodeText call ++ rest) → length before ≡ at → r ≡ Next.Call (at + 8) (at + 8 + length call)) ⌝ }
 {
     if at >= file.len() {
         return Next::End;

@@ -1,8 +1,8 @@
 -- What the bytes of each kind of answer say at their places, and the lines put together.
 use mathlib.Core.Path.{_≡_, refl, sym, _∙_, ap}
-use mathlib.Core.Bool.{Bool, true, false, cond}
-use mathlib.Core.List.{List, [], _∷_, _++_, append-assoc}
-use Prim.Native.Nat.{ℕ, _+_, _^_, _≤_, _<_}
+use mathlib.Core.Bool.{Bool, cond}
+use mathlib.Core.List.{List, [], _∷_, _++_}
+use Prim.Native.Nat.{ℕ, _+_, _<_}
 use native.Mathlib.Omega.{arith}
 use lib.Chars.{codes}
 use lib.ListN.{length, getD, drop}
@@ -10,62 +10,60 @@ use Rattle.std.specs.declared.option.Option.the-variants.{Some, None}
 use Rattle.std.specs.declared.result.Result.{Result}
 use Rattle.std.specs.Written.{decimal}
 use Rattle.std.proofs.shelf.Lists.{length-append, append-nil}
-use Rattle.std.proofs.shelf.Tests.{le-leb, cond-true}
-use Rattle.words.specs.Words.{word, big, wordAt}
-use Rattle.words.proofs.Round.{word-long, big-word}
+use Rattle.spec.specs.Policies.{Response}
+use Rattle.spec.specs.Typecheck.{lubErr, unexpectedType, attrNotFound, tagNotFound, unknownEntity, emptySetErr}
+use Rattle.spec.specs.Validate.{ValidationError, typeError, impossiblePolicy, validationErrorNumber}
+use Rattle.spec.specs.Calls.{Refusal, Answer, refused, done, allValid, notValid, authorized}
+use Rattle.spec.specs.Bytes.{encodeWord, encodeText, encodeAnswer}
+use Rattle.words.proofs.Round.{word-long}
 use Rattle.lines.specs.declared.failures.LineError.{LineError}
-use Rattle.lines.specs.Quotes.{quote, quotesOr}
-use Rattle.lines.specs.Answers.{Why, incompatibleTypes, unexpectedType, attributeNotFound, tagNotFound, unknownEntity, emptySet, neverTrue, whyNumber, whyText, Answer, refused, done, validated, invalid, decided, truthByte, textBytes, idsBytes, bytesOf, lineOf, Fit, fitsLine, decidedLine, invalidLine}
-use Rattle.lines.specs.Parts.{whyAt, textAt}
+use Rattle.lines.specs.Quotes.{quote}
+use Rattle.lines.specs.Answers.{whyText, lineOf, Fit, notValidLine}
+use Rattle.lines.specs.Parts.{whyAt}
 use Rattle.lines.specs.Results.{OkOr}
 use Rattle.lines.proofs.Joins.{joined}
-use Rattle.lines.proofs.Places.{past, byte-there, same-text}
+use Rattle.lines.proofs.Places.{past, byte-there}
 
 -- refused
 
-pub refused-long : (bs : List ℕ) (n place : ℕ) → bs ≡ bytesOf (refused n place) → length bs ≡ 10
-refused-long bs n place e = let l = ap length e in omega (arith, l, word-long place)
+pub refused-long : (bs : List ℕ) (r : Refusal) (place : ℕ) → bs ≡ encodeAnswer (refused r place) → length bs ≡ 10
+refused-long bs r place e = let l = ap length e in omega (arith, l, word-long place)
 
-pub refused-place : (bs : List ℕ) (n place seen : ℕ) → place < 18446744073709551616 → bs ≡ bytesOf (refused n place) → Some seen ≡ wordAt 2 bs → seen ≡ place
-refused-place bs n place seen small e t =
-    let long = refused-long bs n place e in
-    let number : big (drop 2 bs) ≡ place = ap (λ l. big (drop 2 l)) e ∙ ap big (sym (append-nil (word place))) ∙ big-word place [] small in
-    let back : wordAt 2 bs ≡ Some place = cond-true _ _ _ (le-leb 10 (length bs) (omega (arith, long))) ∙ ap (λ m. Some m) number in
-    let told : Some seen ≡ Some place = t ∙ back in
-    cc told
+pub refused-place : (bs : List ℕ) (r : Refusal) (place : ℕ) → bs ≡ encodeAnswer (refused r place) → drop 2 bs ≡ encodeWord place ++ []
+refused-place bs r place e = ap (λ l. drop 2 l) e ∙ sym (append-nil (encodeWord place))
 
--- invalid
+-- not valid
 
-why-back : (w : Why) → whyAt (whyNumber w) ≡ Some (whyText w)
-why-back incompatibleTypes = refl
-why-back unexpectedType = refl
-why-back attributeNotFound = refl
-why-back tagNotFound = refl
-why-back unknownEntity = refl
-why-back emptySet = refl
-why-back neverTrue = refl
+why-back : (w : ValidationError) → whyAt (validationErrorNumber w) ≡ Some (whyText w)
+why-back (typeError lubErr) = refl
+why-back (typeError unexpectedType) = refl
+why-back (typeError attrNotFound) = refl
+why-back (typeError tagNotFound) = refl
+why-back (typeError unknownEntity) = refl
+why-back (typeError emptySetErr) = refl
+why-back impossiblePolicy = refl
 
-pub invalid-text : (bs id : List ℕ) (w : Why) → bs ≡ bytesOf (invalid id w) → drop 1 bs ≡ textBytes id ++ (whyNumber w ∷ [])
-invalid-text bs id w e = ap (λ l. drop 1 l) e
+pub not-valid-text : (bs id : List ℕ) (w : ValidationError) → bs ≡ encodeAnswer (notValid id w) → drop 1 bs ≡ encodeText id ++ (validationErrorNumber w ∷ [])
+not-valid-text bs id w e = ap (λ l. drop 1 l) e
 
-text-long : (id : List ℕ) → length (textBytes id) ≡ 8 + length id
-text-long id = length-append (word (length id)) id ∙ ap (λ n. n + length id) (word-long (length id))
+text-long : (id : List ℕ) → length (encodeText id) ≡ 8 + length id
+text-long id = length-append (encodeWord (length id)) id ∙ ap (λ n. n + length id) (word-long (length id))
 
-pub invalid-long : (bs id : List ℕ) (w : Why) → bs ≡ bytesOf (invalid id w) → length bs ≡ 9 + length id + 1
-invalid-long bs id w e = let l = ap length e in omega (arith, l, text-long id, length-append (textBytes id) (whyNumber w ∷ []))
+pub not-valid-long : (bs id : List ℕ) (w : ValidationError) → bs ≡ encodeAnswer (notValid id w) → length bs ≡ 9 + length id + 1
+not-valid-long bs id w e = let l = ap length e in omega (arith, l, text-long id, length-append (encodeText id) (validationErrorNumber w ∷ []))
 
-pub invalid-why : (bs id : List ℕ) (w : Why) → bs ≡ bytesOf (invalid id w) → getD bs (9 + length id) 0 ≡ whyNumber w
-invalid-why bs id w e =
+pub not-valid-why : (bs id : List ℕ) (w : ValidationError) → bs ≡ encodeAnswer (notValid id w) → getD bs (9 + length id) 0 ≡ validationErrorNumber w
+not-valid-why bs id w e =
     let place : 9 + length id ≡ 1 + (8 + length id) = omega arith in
-    byte-there bs (9 + length id) (whyNumber w) [] (ap (λ k. drop k bs) place ∙ past bs 1 (8 + length id) (textBytes id) (whyNumber w ∷ []) (invalid-text bs id w e) (text-long id))
+    byte-there bs (9 + length id) (validationErrorNumber w) [] (ap (λ k. drop k bs) place ∙ past bs 1 (8 + length id) (encodeText id) (validationErrorNumber w ∷ []) (not-valid-text bs id w e) (text-long id))
 
-why-seen : (bs id seen : List ℕ) (w : Why) → bs ≡ bytesOf (invalid id w) → seen ≡ id → getD bs (9 + length seen) 0 ≡ whyNumber w
-why-seen bs id seen w e s = ap (λ l. getD bs (9 + length l) 0) s ∙ invalid-why bs id w e
+why-seen : (bs id seen : List ℕ) (w : ValidationError) → bs ≡ encodeAnswer (notValid id w) → seen ≡ id → getD bs (9 + length seen) 0 ≡ validationErrorNumber w
+why-seen bs id seen w e s = ap (λ l. getD bs (9 + length l) 0) s ∙ not-valid-why bs id w e
 
-pub same-why : (bs id seen words : List ℕ) (w : Why) → bs ≡ bytesOf (invalid id w) → seen ≡ id → Some words ≡ whyAt (getD bs (9 + length seen) 0) → words ≡ whyText w
+pub same-why : (bs id seen words : List ℕ) (w : ValidationError) → bs ≡ encodeAnswer (notValid id w) → seen ≡ id → Some words ≡ whyAt (getD bs (9 + length seen) 0) → words ≡ whyText w
 same-why bs id seen words w e s t = let told : Some words ≡ Some (whyText w) = t ∙ ap whyAt (why-seen bs id seen w e s) ∙ why-back w in cc told
 
-pub no-why : (bs id seen : List ℕ) (w : Why) → bs ≡ bytesOf (invalid id w) → seen ≡ id → None ≡ whyAt (getD bs (9 + length seen) 0) → ⊥
+pub no-why : (bs id seen : List ℕ) (w : ValidationError) → bs ≡ encodeAnswer (notValid id w) → seen ≡ id → None ≡ whyAt (getD bs (9 + length seen) 0) → ⊥
 no-why bs id seen w e s t =
     let told : None ≡ Some (whyText w) = t ∙ ap whyAt (why-seen bs id seen w e s) ∙ why-back w in
     let n : _≡_ {A = ℕ} 0 1 = cc told in
@@ -74,13 +72,13 @@ no-why bs id seen w e s t =
 abbrev whyLine : ℕ → List ℕ → List ℕ
 whyLine n words = codes " does not check: " ++ (decimal n ++ (codes " (" ++ (words ++ codes ")")))
 
-pub invalid-whole : (bs id seen words l0 l1 l2 shown : List ℕ) (w : Why) → bs ≡ bytesOf (invalid id w) → seen ≡ id → words ≡ whyText w →
-    l0 ≡ codes "policy " → l1 ≡ l0 ++ quote seen → l2 ≡ l1 ++ shown → shown ≡ whyLine (getD bs (9 + length seen) 0) words → l2 ≡ invalidLine id w
-invalid-whole bs id seen words l0 l1 l2 shown w e s t p0 p1 p2 q =
+pub not-valid-whole : (bs id seen words l0 l1 l2 shown : List ℕ) (w : ValidationError) → bs ≡ encodeAnswer (notValid id w) → seen ≡ id → words ≡ whyText w →
+    l0 ≡ codes "policy " → l1 ≡ l0 ++ quote seen → l2 ≡ l1 ++ shown → shown ≡ whyLine (getD bs (9 + length seen) 0) words → l2 ≡ notValidLine id w
+not-valid-whole bs id seen words l0 l1 l2 shown w e s t p0 p1 p2 q =
     joined l0 l1 l2 (quote seen) shown p1 p2
     ∙ ap (λ l. l ++ (quote seen ++ shown)) p0
     ∙ ap (λ l. codes "policy " ++ (quote l ++ shown)) s
-    ∙ ap (λ l. codes "policy " ++ (quote id ++ l)) (q ∙ ap (λ n. whyLine n words) (why-seen bs id seen w e s) ∙ ap (λ l. whyLine (whyNumber w) l) t)
+    ∙ ap (λ l. codes "policy " ++ (quote id ++ l)) (q ∙ ap (λ n. whyLine n words) (why-seen bs id seen w e s) ∙ ap (λ l. whyLine (validationErrorNumber w) l) t)
 
 -- decided
 
@@ -97,19 +95,19 @@ five-joined v q s p f l0 l1 l2 l3 l4 e0 e1 e2 e3 e4 =
 -- by the first byte
 
 pub first-refused : {X : Type 0} (f : X → List ℕ) (bs : List ℕ) (r : Result X LineError) → getD bs 0 0 ≡ 0 →
-    ((n place : ℕ) → place < 18446744073709551616 → bs ≡ bytesOf (refused n place) → OkOr r (λ l. f l ≡ lineOf (refused n place))) →
-    (a : Answer) → Fit a → bs ≡ bytesOf a → OkOr r (λ l. f l ≡ lineOf a)
-first-refused f bs r z h (refused n place) fit e = h n place fit e
+    ((refusal : Refusal) (place : ℕ) → place < 18446744073709551616 → bs ≡ encodeAnswer (refused refusal place) → OkOr r (λ l. f l ≡ lineOf (refused refusal place))) →
+    (a : Answer) → Fit a → bs ≡ encodeAnswer a → OkOr r (λ l. f l ≡ lineOf a)
+first-refused f bs r z h (refused refusal place) fit e = h refusal place fit e
 first-refused f bs r z h done fit e = absurd (omega (arith, ap (λ l. getD l 0 0) e))
-first-refused f bs r z h validated fit e = absurd (omega (arith, ap (λ l. getD l 0 0) e))
-first-refused f bs r z h (invalid id w) fit e = absurd (omega (arith, ap (λ l. getD l 0 0) e))
-first-refused f bs r z h (decided al rs es rq en) fit e = absurd (omega (arith, ap (λ l. getD l 0 0) e))
+first-refused f bs r z h allValid fit e = absurd (omega (arith, ap (λ l. getD l 0 0) e))
+first-refused f bs r z h (notValid id w) fit e = absurd (omega (arith, ap (λ l. getD l 0 0) e))
+first-refused f bs r z h (authorized response q es) fit e = absurd (omega (arith, ap (λ l. getD l 0 0) e))
 
-pub first-decided : {X : Type 0} (f : X → List ℕ) (bs : List ℕ) (r : Result X LineError) → getD bs 0 0 ≡ 4 →
-    ((al : Bool) (rs es : List (List ℕ)) (rq en : Bool) → bs ≡ bytesOf (decided al rs es rq en) → OkOr r (λ l. f l ≡ lineOf (decided al rs es rq en))) →
-    (a : Answer) → Fit a → bs ≡ bytesOf a → OkOr r (λ l. f l ≡ lineOf a)
-first-decided f bs r z h (refused n place) fit e = absurd (omega (arith, ap (λ l. getD l 0 0) e))
-first-decided f bs r z h done fit e = absurd (omega (arith, ap (λ l. getD l 0 0) e))
-first-decided f bs r z h validated fit e = absurd (omega (arith, ap (λ l. getD l 0 0) e))
-first-decided f bs r z h (invalid id w) fit e = absurd (omega (arith, ap (λ l. getD l 0 0) e))
-first-decided f bs r z h (decided al rs es rq en) fit e = h al rs es rq en e
+pub first-authorized : {X : Type 0} (f : X → List ℕ) (bs : List ℕ) (r : Result X LineError) → getD bs 0 0 ≡ 4 →
+    ((response : Response) (q es : Bool) → bs ≡ encodeAnswer (authorized response q es) → OkOr r (λ l. f l ≡ lineOf (authorized response q es))) →
+    (a : Answer) → Fit a → bs ≡ encodeAnswer a → OkOr r (λ l. f l ≡ lineOf a)
+first-authorized f bs r z h (refused refusal place) fit e = absurd (omega (arith, ap (λ l. getD l 0 0) e))
+first-authorized f bs r z h done fit e = absurd (omega (arith, ap (λ l. getD l 0 0) e))
+first-authorized f bs r z h allValid fit e = absurd (omega (arith, ap (λ l. getD l 0 0) e))
+first-authorized f bs r z h (notValid id w) fit e = absurd (omega (arith, ap (λ l. getD l 0 0) e))
+first-authorized f bs r z h (authorized response q es) fit e = h response q es e

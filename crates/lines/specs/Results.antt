@@ -5,15 +5,16 @@ use Prim.Native.Nat.{ℕ}
 use lib.ListN.{drop}
 use Rattle.std.specs.declared.result.Result.{Result}
 use Rattle.std.specs.declared.result.Result.the-variants.{Ok, Err}
+use Rattle.spec.specs.Basics.{Text}
+use Rattle.spec.specs.Bytes.{encodeText, encodeList}
 use Rattle.lines.specs.declared.failures.LineError.{LineError}
 use Rattle.lines.specs.declared.failures.LineError.the-variants.{OutOfMemory}
-use Rattle.lines.specs.Answers.{idsBytes}
 
 abbrev pub OkOr : {X : Type 0} → Result X LineError → (X → Type 0) → Type 0
 OkOr (Ok x) P = P x
 OkOr (Err e) P = e ≡ OutOfMemory
 
 -- Where a list of ids stands at a place, the place behind it is found, and the line grows by what is said of the ids.
-abbrev pub Lists : (List (List ℕ) → List ℕ) → List ℕ → ℕ → List ℕ → List ℕ → Result ℕ LineError → Type 0
+abbrev pub Lists : (List Text → List ℕ) → List ℕ → ℕ → List ℕ → List ℕ → Result ℕ LineError → Type 0
 Lists said answer at line after r =
-    (ids : List (List ℕ)) (rest : List ℕ) → drop at answer ≡ idsBytes ids ++ rest → OkOr r (λ end. (drop end answer ≡ rest) × (after ≡ line ++ said ids))
+    (ids : List Text) (rest : List ℕ) → drop at answer ≡ encodeList encodeText ids ++ rest → OkOr r (λ end. (drop end answer ≡ rest) × (after ≡ line ++ said ids))

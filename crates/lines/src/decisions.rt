@@ -1,11 +1,13 @@
 // The line of a decision: whether it is allowed, by which policies, which had errors, and what fits the schema.
 ghost use mathlib.Core.Path.{_≡_};
 ghost use mathlib.Core.Bool.{Bool, cond};
-ghost use mathlib.Core.List.{List, [], _∷_, _++_};
-ghost use Prim.Native.Nat.{ℕ};
+ghost use mathlib.Core.List.{_++_};
 ghost use lib.ListN.{drop};
 ghost use Rattle.std.specs.Of.String.{string-bytes};
-ghost use Rattle.lines.specs.Answers.{decided as anyDecided, bytesOf, lineOf, truthByte, fitsLine};
+ghost use Rattle.spec.specs.Policies.{Response};
+ghost use Rattle.spec.specs.Calls.{authorized};
+ghost use Rattle.spec.specs.Bytes.{encodeBool, encodeAnswer};
+ghost use Rattle.lines.specs.Answers.{lineOf, fitsLine};
 ghost use Rattle.lines.specs.Results.{OkOr};
 use crate::failures::LineError;
 use crate::failures::LineErrorFromAlloc;
@@ -14,7 +16,7 @@ use crate::parts::truth_at;
 use std::alloc::Global;
 
 pub fn decided(heap: Global, answer: &[u8]) -> Result<String, LineError>
-    ensures { λ r. ⌜ ((allowed : Bool) (reasons errors : List (List ℕ)) (request entities : Bool) → now (answer .entry) ≡ bytesOf (anyDecided allowed reasons errors request entities) → OkOr r (λ line. string-bytes line ≡ lineOf (anyDecided allowed reasons errors request entities))) ⌝ }
+    ensures { λ r. ⌜ ((response : Response) (request entities : Bool) → now (answer .entry) ≡ encodeAnswer (authorized response request entities) → OkOr r (λ line. string-bytes line ≡ lineOf (authorized response request entities))) ⌝ }
 {
     let Some(allowed) = truth_at(answer, 1) else {
         return Err(LineError::NotAnAnswer);
@@ -29,7 +31,7 @@ pub fn decided(heap: Global, answer: &[u8]) -> Result<String, LineError>
 
 // Appends whether the request and the entities fit: the last two bytes.
 fn fits(line: &mut String, answer: &[u8], at: usize) -> Result<(), LineError>
-    ensures { λ r. ⌜ ((request entities : Bool) → drop at (now (answer .entry)) ≡ truthByte request ∷ (truthByte entities ∷ []) → OkOr r (λ _. string-bytes (now (line .exit)) ≡ string-bytes (now (line .entry)) ++ fitsLine request entities)) ⌝ }
+    ensures { λ r. ⌜ ((request entities : Bool) → drop at (now (answer .entry)) ≡ encodeBool request ++ encodeBool entities → OkOr r (λ _. string-bytes (now (line .exit)) ≡ string-bytes (now (line .entry)) ++ fitsLine request entities)) ⌝ }
 {
     let Some(request) = truth_at(answer, at) else {
         return Err(LineError::NotAnAnswer);

@@ -1,10 +1,13 @@
 // The line that is printed for an answer.
 ghost use mathlib.Core.Path.{_≡_};
-ghost use mathlib.Core.List.{List};
 ghost use Prim.Native.Nat.{ℕ, _^_, _<_};
 ghost use lib.ListN.{length};
 ghost use Rattle.std.specs.Of.String.{string-bytes};
-ghost use Rattle.lines.specs.Answers.{Answer, Why, Fit, refused as anyRefused, invalid as anyInvalid, bytesOf, lineOf};
+ghost use Rattle.spec.specs.Basics.{Text};
+ghost use Rattle.spec.specs.Validate.{ValidationError};
+ghost use Rattle.spec.specs.Calls.{Refusal, Answer, refused as anyRefused, notValid as anyNotValid};
+ghost use Rattle.spec.specs.Bytes.{encodeAnswer};
+ghost use Rattle.lines.specs.Answers.{Fit, lineOf};
 ghost use Rattle.lines.specs.Results.{OkOr};
 
 mod decisions;
@@ -27,7 +30,7 @@ use words::word_at;
 
 // The line of the answer that these bytes are, without an end of line.
 pub fn line_of(heap: Global, answer: &[u8]) -> Result<String, LineError>
-    ensures { λ r. ⌜ ((a : Answer) → Fit a → now (answer .entry) ≡ bytesOf a → OkOr r (λ line. string-bytes line ≡ lineOf a)) ⌝ }
+    ensures { λ r. ⌜ ((a : Answer) → Fit a → now (answer .entry) ≡ encodeAnswer a → OkOr r (λ line. string-bytes line ≡ lineOf a)) ⌝ }
 {
     if answer.is_empty() {
         return Err(LineError::NotAnAnswer);
@@ -54,7 +57,7 @@ fn whole(heap: Global, answer: &[u8], text: &str) -> Result<String, LineError>
 
 // The number of the refusal and the place.
 fn refused(heap: Global, answer: &[u8]) -> Result<String, LineError>
-    ensures { λ r. ⌜ ((n place : ℕ) → place < 2 ^ 64 → now (answer .entry) ≡ bytesOf (anyRefused n place) → OkOr r (λ line. string-bytes line ≡ lineOf (anyRefused n place))) ⌝ }
+    ensures { λ r. ⌜ ((refusal : Refusal) (place : ℕ) → place < 2 ^ 64 → now (answer .entry) ≡ encodeAnswer (anyRefused refusal place) → OkOr r (λ line. string-bytes line ≡ lineOf (anyRefused refusal place))) ⌝ }
 {
     if answer.len() != 10 {
         return Err(LineError::NotAnAnswer);
@@ -68,7 +71,7 @@ fn refused(heap: Global, answer: &[u8]) -> Result<String, LineError>
 
 // The policy that does not check, and why.
 fn invalid(heap: Global, answer: &[u8]) -> Result<String, LineError>
-    ensures { λ r. ⌜ ((id : List ℕ) (why : Why) → now (answer .entry) ≡ bytesOf (anyInvalid id why) → OkOr r (λ line. string-bytes line ≡ lineOf (anyInvalid id why))) ⌝ }
+    ensures { λ r. ⌜ ((id : Text) (why : ValidationError) → now (answer .entry) ≡ encodeAnswer (anyNotValid id why) → OkOr r (λ line. string-bytes line ≡ lineOf (anyNotValid id why))) ⌝ }
 {
     let Some(id) = text_at(answer, 1) else {
         return Err(LineError::NotAnAnswer);

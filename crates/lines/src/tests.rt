@@ -10,6 +10,10 @@ fn says(heap: Global, answer: &[u8], text: &str) -> Result<(), Fail> {
     check_eq(line.as_str(), text)
 }
 
+fn no_line(heap: Global, answer: &[u8]) -> Result<(), Fail> {
+    check(line_of(heap, answer).is_err())
+}
+
 #[test]
 fn short_lines(rt: LibcRuntime) -> Result<(), Fail> {
     let heap = rt.alloc();
@@ -54,10 +58,10 @@ fn odd_bytes(rt: LibcRuntime) -> Result<(), Fail> {
 #[test]
 fn no_answers(rt: LibcRuntime) -> Result<(), Fail> {
     let heap = rt.alloc();
-    check(line_of(heap, b"").is_err())?;
-    check(line_of(heap, b"\x05").is_err())?;
-    check(line_of(heap, b"\x01\0").is_err())?;
-    check(line_of(heap, b"\x03\0\0\0\0\0\0\0\x02p4\x08").is_err())?;
-    check(line_of(heap, b"\x04\0\0\0\x01").is_err())?;
-    check(line_of(heap, b"\x04\0\0\0\x01\x01\0").is_err())
+    no_line(heap, b"")?;
+    no_line(heap, b"\x05")?;
+    no_line(heap, b"\x01\0")?;
+    no_line(heap, b"\x03\0\0\0\0\0\0\0\x02p4\x08")?;
+    no_line(heap, b"\x04\0\0\0\x01")?;
+    no_line(heap, b"\x04\0\0\0\x01\x01\0")
 }

@@ -3,14 +3,12 @@ ghost use Prim.Native.Nat.{_≤_};
 ghost use lib.ListN.{length};
 ghost use Rattle.std.specs.Vec.{made};
 
-mod engine;
 mod faults;
 
 use calls_file::Next;
 use calls_file::count_calls;
 use calls_file::next_call;
-use engine::answer_call;
-use engine::answer_room;
+use engine::call;
 use faults::Fault;
 use faults::FaultDisplay;
 use faults::FaultFromAlloc;
@@ -21,6 +19,13 @@ use std::env;
 use std::fs;
 
 const MOST_CAPACITY: usize = 16777216;
+
+// How many bytes an answer may take: an id of n bytes takes n + 9 in an answer, and n + 1 of the capacity at least; the rest of an answer takes a few.
+fn answer_room(capacity: usize) -> usize
+    requires { ⌜ capacity ≤ 16777216 ⌝ }
+{
+    9 * capacity + 32
+}
 
 fn main(rt: LibcRuntime) -> Result<(), Fault> {
     let result = run(&rt);
@@ -61,12 +66,15 @@ fn capacity_of(text: String) -> Result<usize, Fault>
     }
 }
 
-fn answer_all(rt: &LibcRuntime, file: &[u8], room: &mut [u8]) -> Result<(), Fault>
-    requires { ⌜ 32 ≤ length (now room) ⌝ }
-{
+fn answer_all(rt: &LibcRuntime, file: &[u8], room: &mut [u8]) -> Result<(), Fault> {
     let mut at = 0;
     while let Next::Call(start, end) = next_call(file, at) {
-        let long = answer_call(&file[start..end], room);
+        let Some(long) = call(&file[start..end], room) else {
+            return Err(Fault::Memory);
+        };
+        if long > room.len() {
+            return Err(Fault::NoAnswer);
+        }
         let line = line_of(rt.alloc(), &room[0..long])?;
         println!(rt, "{line}")?;
         at = end;

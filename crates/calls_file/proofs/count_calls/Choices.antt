@@ -1,5 +1,5 @@
 -- The loop stands at a place that is reached over as many calls as it has counted; each call takes eight bytes and more.
-use Prim.Native.Nat.{_+_, _-_, _≤_}
+use Prim.Native.Nat.{_-_, _≤_}
 use lib.ListN.{length}
 use Rattle.calls_file.specs.Walk.{Reached}
 use Rattle.calls_file.proofs.count_calls.Given as given

@@ -1,6 +1,5 @@
 -- Each exit: the definition's tests come out as the code's did, and a call that stands there is found by the definition.
 use borrow.Author.Needs.{needs}
-use native.Mathlib.Omega.{arith}
 use Rattle.calls_file.proofs.Placed.{call-there}
 use Rattle.calls_file.proofs.next_call.Needs as need
 
