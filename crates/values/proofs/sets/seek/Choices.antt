@@ -1,0 +1,14 @@
+use mathlib.Core.List.{List, _++_}
+use Prim.Native.Nat.{ℕ, _-_}
+use Rattle.values.specs.Order.{orderValue}
+use Rattle.values.specs.Held.{decode, elementAt, count}
+use Rattle.values.specs.Making.{Seeking}
+use Rattle.values.proofs.sets.seek.Given as given
+
+abbrev pub Inv-loop-lo : given.InvT-loop-lo
+Inv-loop-lo l =
+    let m : List ℕ = l .store ++ l .work in
+    Seeking (λ j. orderValue (decode (l .height) m (l .v)) (decode (l .height) m (elementAt m (l .p) j))) (count m (l .p)) (l .lo) (l .hi)
+
+abbrev pub μ-loop-lo : given.MeasureT-loop-lo
+μ-loop-lo l = l .hi - l .lo
