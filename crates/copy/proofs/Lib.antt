@@ -1,0 +1,10 @@
+pub mod RowForms
+pub mod Writes
+pub mod There
+pub mod Parts
+pub mod Pieces
+pub mod WholeCalls
+pub mod Filling
+pub mod ValueForms
+pub mod FourParts
+pub mod BySize

@@ -1,0 +1,4 @@
+pub mod Copied
+pub mod Writing
+pub mod Placed
+pub mod Carried

@@ -1,0 +1,9 @@
+pub mod Pieces
+pub mod Parts
+pub mod Steps
+pub mod Codes
+pub mod Items
+pub mod Lookups
+pub mod Forms
+pub mod Whole
+pub mod Opened
