@@ -61,12 +61,13 @@ class Reader:
         return self.run(self.word())
 
     def uid(self):
-        self.text()
-        self.text()
+        return (self.text(), self.text())
 
     def many(self, one):
+        found = []
         while self.byte(1) == 1:
-            one()
+            found.append(one())
+        return found
 
     def pattern(self):
         for _ in range(self.word()):
@@ -122,23 +123,26 @@ class Reader:
             self.expr(below)
 
     def type(self, depth):
+        """A pair of the form and what it holds."""
         tag = self.byte(5)
         if tag == 0:
-            self.byte(2)
-        elif tag == 3:
-            self.text()
-        elif tag == 4:
-            self.type(self.level(depth))
-        elif tag == 5:
-            self.attrs(self.level(depth))
+            return (tag, self.byte(2))
+        if tag == 3:
+            return (tag, self.text())
+        if tag == 4:
+            return (tag, self.type(self.level(depth)))
+        if tag == 5:
+            return (tag, self.attrs(self.level(depth)))
+        return (tag, None)
 
     def attrs(self, depth):
+        """Pairs of a name and its type."""
+
         def item():
             self.byte(1)
-            self.text()
-            self.type(depth)
+            return (self.text(), self.type(depth))
 
-        self.many(item)
+        return self.many(item)
 
     def scope(self, most):
         tag = self.byte(most)
@@ -171,21 +175,13 @@ class Reader:
         self.named(MOST_DEPTH - 1, self.value)
 
     def entry(self):
-        self.text()
-        self.many(self.text)
-        self.attrs(MOST_DEPTH - 1)
-        self.many(lambda: self.type(MOST_DEPTH))
+        return (self.text(), self.many(self.text), self.attrs(MOST_DEPTH - 1), self.many(lambda: self.type(MOST_DEPTH)))
 
     def action(self):
-        self.uid()
-        self.many(self.text)
-        self.many(self.text)
-        self.many(self.uid)
-        self.attrs(MOST_DEPTH - 1)
+        return (self.uid(), self.many(self.text), self.many(self.text), self.many(self.uid), self.attrs(MOST_DEPTH - 1))
 
     def schema(self):
-        self.many(self.entry)
-        self.many(self.action)
+        return (self.many(self.entry), self.many(self.action))
 
     def request(self):
         self.uid()
@@ -195,18 +191,63 @@ class Reader:
 
     def call(self):
         tag = self.byte(6)
-        (self.schema, self.policy, self.text, self.entity, self.uid, lambda: None, self.request)[tag]()
+        carried = (self.schema, self.policy, self.text, self.entity, self.uid, lambda: None, self.request)[tag]()
         if self.at != len(self.bytes):
             raise Stop(self.at)
+        return tag, carried
 
 
-def place(call):
-    """None for a call, else where the bytes cease to be one."""
+def ascending(keys):
+    return all(a < b for a, b in zip(keys, keys[1:]))
+
+
+def uid_key(uid_):
+    """Names of entities go by lengths and bytes of type and id."""
+    kind, name = uid_
+    return (len(kind), kind, len(name), name)
+
+
+def well_formed(entries, actions):
+    """Whether a schema is in order, as docs/FORMAT.md and the definitions say."""
+    types = [name for name, _, _, _ in entries]
+    uids = [uid_ for uid_, _, _, _, _ in actions]
+    known = set(types) | {kind for kind, _ in uids}
+
+    def good_type(t):
+        form, held = t
+        if form == 0:
+            return held == 0
+        if form == 3:
+            return held in known
+        if form == 4:
+            return good_type(held)
+        return good_attrs(held) if form == 5 else True
+
+    def good_attrs(attrs):
+        return ascending([name for name, _ in attrs]) and all(good_type(t) for _, t in attrs)
+
+    def good_entry(entry):
+        _, above, attrs, tags = entry
+        return ascending(above) and set(above) <= set(types) and good_attrs(attrs) and len(tags) <= 1 and all(map(good_type, tags))
+
+    def good_action(action):
+        uid_, principals, resources, above, context = action
+        closed = all(set(more) <= set(above) for other, _, _, more, _ in actions if other in above)
+        named = ascending(principals) and ascending(resources) and set(principals) | set(resources) <= known
+        over = ascending([uid_key(u) for u in above]) and set(above) <= set(uids) and uid_ not in above and closed
+        return named and over and uid_[0] not in types and good_attrs(context)
+
+    in_order = ascending(types) and ascending([uid_key(u) for u in uids])
+    return in_order and all(map(good_entry, entries)) and all(map(good_action, actions))
+
+
+def answer(call):
+    """The refusal and its place: 1 for what is no call, 3 for a schema that is not in order, else 2, as no call is done yet."""
     try:
-        Reader(call).call()
+        tag, carried = Reader(call).call()
     except Stop as stop:
-        return stop.args[0]
-    return None
+        return 1, stop.args[0]
+    return (3 if tag == 0 and not well_formed(*carried) else 2), 0
 
 
 def integer(n):
@@ -253,8 +294,42 @@ def deep(levels):
     return b"\x01" + text("p") + b"\x00\x00\x00\x00" + many([b"\x00" + b"\x08" * levels + VARIABLE["principal"]])
 
 
+def schemas():
+    """Schemas that are not in order for one reason each, and one that is."""
+    int_, string = b"\x01", b"\x02"
+
+    def entry(name, above=(), attrs=(), tags=()):
+        return text(name) + many([text(t) for t in above]) + many([b"\x01" + text(a) + t for a, t in attrs]) + many(tags)
+
+    def action(name, principals=(), resources=(), above=(), context=(), kind="A"):
+        lists = many([text(t) for t in principals]) + many([text(t) for t in resources]) + many([uid("A", u) for u in above])
+        return uid(kind, name) + lists + many([b"\x01" + text(a) + t for a, t in context])
+
+    def schema(entries, actions=()):
+        return b"\x00" + many(entries) + many(actions)
+
+    yield schema([entry("T", ["U"], [("a", int_), ("b", b"\x03" + text("U"))], [string]), entry("U")], [action("all"), action("read", ["T", "U"], ["T"], ["all"])])
+    yield schema([entry("U"), entry("T")])
+    yield schema([entry("T"), entry("T")])
+    yield schema([entry("T", ["V"])])
+    yield schema([entry("T", ["T", "T"])])
+    yield schema([entry("T", [], [("b", int_), ("a", int_)])])
+    yield schema([entry("T", [], [("a", b"\x03" + text("V"))])])
+    yield schema([entry("T", [], [("a", b"\x00\x01")])])
+    yield schema([entry("T", [], [], [int_, int_])])
+    yield schema([entry("T", [], [], [b"\x04\x03" + text("V")])])
+    yield schema([entry("T")], [action("read"), action("all")])
+    yield schema([entry("T")], [action("read", ["V"])])
+    yield schema([entry("T")], [action("read", [], [], ["all"])])
+    yield schema([entry("T")], [action("read", [], [], ["read"])])
+    yield schema([entry("T")], [action("a"), action("b", [], [], ["a"]), action("c", [], [], ["b"])])
+    yield schema([entry("A")], [action("read")])
+    yield schema([entry("T")], [action("read", [], [], [], [("z", int_), ("y", int_)])])
+
+
 def vectors():
     yield from samples()
+    yield from schemas()
     yield from (b"", b"\x07", b"\xff", b"\x05\x00", deep(MOST_DEPTH), deep(MOST_DEPTH + 1))
     for call in samples():
         for end in range(len(call)):
@@ -265,8 +340,8 @@ def vectors():
 
 
 def line(call):
-    at = place(call)
-    return "refused 2 at 0" if at is None else f"refused 1 at {at}"
+    number, place = answer(call)
+    return f"refused {number} at {place}"
 
 
 def main():

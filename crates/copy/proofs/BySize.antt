@@ -1,13 +1,9 @@
 -- What the scan of a call says of it is enough to copy what it carries.
-use mathlib.Core.Path.{_≡_, refl, sym, _∙_, ap}
+use mathlib.Core.Path.{_≡_, refl, sym, _∙_}
 use Prim.Native.Nat.{ℕ, _+_, _*_, _≤_}
 use native.Mathlib.Omega.{arith}
 use lib.ListN.{length}
-use Rattle.std.specs.declared.result.Result.{Result}
-use Rattle.std.specs.declared.result.Result.the-variants.{Ok, Err}
-use Rattle.spec.specs.Policies.{Policy}
-use Rattle.spec.specs.Values.{Entity, Request}
-use Rattle.spec.specs.Types.{Schema}
+use Rattle.std.specs.declared.result.Result.the-variants.{Ok}
 use Rattle.spec.specs.Calls.{Call, setSchema, putPolicy, removePolicy, putEntity, removeEntity, validatePolicies, authorize, malformed, callNumber}
 use Rattle.rows.proofs.Bounds.{rows-are-bounded}
 use Rattle.wire.specs.Sizes.{sizeCall}

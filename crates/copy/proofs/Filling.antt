@@ -1,7 +1,7 @@
 -- A node while it is filled: the slots of its elements in front, and what lies behind them further on.
 use mathlib.Core.Path.{_≡_, refl, sym, _∙_, ap}
 use mathlib.Core.List.{List, [], _∷_, _++_}
-use Prim.Native.Nat.{ℕ, _+_, _-_, _*_, _≤_, _<_}
+use Prim.Native.Nat.{ℕ, _+_, _-_, _*_, _≤_}
 use native.Mathlib.Omega.{arith}
 use lib.ListN.{length, getD, set, drop}
 use Rattle.std.proofs.shelf.Lists.{length-append, append-assoc, append-nil}
@@ -13,7 +13,7 @@ use Rattle.wire.specs.Read.{Read, got, readList}
 use Rattle.copy.specs.Writing.{written}
 use Rattle.copy.specs.Placed.{setRow, recordRow, valueSlot, attrSlot, attrBehind}
 use Rattle.copy.proofs.Writes.{written-none, written-before, written-more, written-long, written-apart}
-use Rattle.copy.proofs.Parts.{Part, Step, none-yet, byte-there, none-behind, rows-append, rows-push}
+use Rattle.copy.proofs.Parts.{Part, Step, none-yet, none-behind, rows-append, rows-push}
 
 module _ {X : Type 0} (slot : ℕ → X → List ℕ) (tail : X → List ℕ) where
   -- the slots of elements, of which the first one's offset is o
@@ -89,13 +89,13 @@ module _ {X : Type 0} (slot : ℕ → X → List ℕ) (tail : X → List ℕ) wh
               let fits = one-fits in
               let u = fills-up in
               let same : q .0 .before ++ q .0 .behind ≡ p .before ++ p .behind =
-                  ap (λ zs. zs ++ q .0 .behind) (q .1) ∙ ap (λ zs. (p .before ++ (x ∷ [])) ++ zs) (q .2) ∙ append-assoc (p .before) (x ∷ []) (s .others) ∙ ap (λ zs. p .before ++ zs) (sym (s .split)) in
+              ap (λ zs. zs ++ q .0 .behind) (q .1) ∙ ap (λ zs. (p .before ++ (x ∷ [])) ++ zs) (q .2) ∙ append-assoc (p .before) (x ∷ []) (s .others) ∙ ap (λ zs. p .before ++ zs) (sym (s .split)) in
               let lE : length E ≡ length (slots 0 (p .before)) = slots-same (2 + size) 0 (p .before) in
               let a = ap (λ z. length (slots 0 z)) (s .split) ∙ slots-more 0 x (s .others) in
               let lx : length (written xs (to + 2) E) ≡ length xs = written-long xs (to + 2) E (omega (arith, lE, f .entry-at, u .0, f .room)) in
               let behind : rowsOf tail (q .0 .before) ≡ B ++ tail x = ap (rowsOf tail) (q .1) ∙ rows-push tail (p .before) x in
               let front : slots (2 + size) (q .0 .before) ≡ E ++ slot (next - to) x =
-                  ap (slots (2 + size)) (q .1) ∙ slots-push (2 + size) (p .before) x ∙ ap (λ m. E ++ slot m x) (omega (arith, f .next-at)) in
+              ap (slots (2 + size)) (q .1) ∙ slots-push (2 + size) (p .before) x ∙ ap (λ m. E ++ slot m x) (omega (arith, f .next-at)) in
               let zero : slots 0 (q .0 .before) ≡ slots 0 (p .before) ++ slot (0 + length (rowsOf tail (p .before))) x = ap (slots 0) (q .1) ∙ slots-push 0 (p .before) x in
               let long = length-append (slots 0 (p .before)) (slot (0 + length (rowsOf tail (p .before))) x) in
               record {
@@ -151,9 +151,11 @@ set-row vs =
     many : (us : List Value) → countValues (toValues us) ≡ length us
     many [] = refl
     many (u ∷ us) = omega (arith, many us)
+
     fronts : (o : ℕ) (us : List Value) → entries o (toValues us) ≡ slots valueSlot behindOf o us
     fronts o [] = refl
     fronts o (u ∷ us) = ap (λ e. valueSlot o u ++ e) (fronts (o + length (behindOf u)) us)
+
     backs : (us : List Value) → behindAll (toValues us) ≡ rowsOf behindOf us
     backs [] = refl
     backs (u ∷ us) = ap (λ b. behindOf u ++ b) (backs us)
@@ -181,11 +183,13 @@ record-row fs =
     many : (gs : List (Text × Value)) → countFields (toAttrs gs) ≡ length gs
     many [] = refl
     many (g ∷ gs) = omega (arith, many gs)
+
     fronts : (o : ℕ) (gs : List (Text × Value)) → attrEntries o (toAttrs gs) ≡ slots attrSlot attrBehind o gs
     fronts o [] = refl
     fronts o (g ∷ gs) =
         let p : o + length (codeText (g .0)) + length (behindOf (g .1)) ≡ o + length (attrBehind g) = omega (arith, length-append (codeText (g .0)) (behindOf (g .1))) in
         ap (λ e. attrSlot o g ++ e) (ap (λ k. attrEntries k (toAttrs gs)) p ∙ fronts (o + length (attrBehind g)) gs)
+
     backs : (gs : List (Text × Value)) → behindAttrs (toAttrs gs) ≡ rowsOf attrBehind gs
     backs [] = refl
     backs (g ∷ gs) = ap (λ b. codeText (g .0) ++ (behindOf (g .1) ++ b)) (backs gs) ∙ sym (append-assoc (codeText (g .0)) (behindOf (g .1)) (rowsOf attrBehind gs))

@@ -1,6 +1,6 @@
 -- Entities and requests, which are four parts each.
-use mathlib.Core.Path.{_≡_, refl, sym, _∙_, ap}
-use mathlib.Core.List.{List, [], _∷_, _++_}
+use mathlib.Core.Path.{_≡_, _∙_, ap}
+use mathlib.Core.List.{List, _++_}
 use Prim.Native.Nat.{ℕ, _+_, _≤_}
 use native.Mathlib.Omega.{arith}
 use lib.ListN.{length, drop}
@@ -11,13 +11,12 @@ use Rattle.spec.specs.Calls.{putEntity, authorize}
 use Rattle.rows.specs.Rows.{counted, rowAttrs}
 use Rattle.wire.specs.Read.{Read, got, readList}
 use Rattle.wire.specs.Tags.{putEntityTag, authorizeTag}
-use Rattle.wire.specs.Grammar.{Kind, uid, attrs, entity, request, Contents, Fields, one, more, two, three, node, list, fields, readField, readFields, readNode, decode}
+use Rattle.wire.specs.Grammar.{uid, attrs, entity, request, Contents, one, two, three, node, list, fields, readFields, readNode, decode}
 use Rattle.wire.proofs.Exact.{got-long}
-use Rattle.copy.specs.declared.leaves.Copied.{Copied}
-use Rattle.copy.specs.Writing.{written, done, after}
+use Rattle.copy.specs.Writing.{written}
 use Rattle.copy.specs.Carried.{rowCall}
-use Rattle.copy.proofs.Writes.{written-more, Wrote, wrote}
-use Rattle.copy.proofs.There.{PairAt, pair-there}
+use Rattle.copy.proofs.Writes.{written-more}
+use Rattle.copy.proofs.There.{pair-there}
 use Rattle.copy.proofs.Pieces.{node-there}
 use Rattle.copy.proofs.WholeCalls.{There}
 

@@ -11,7 +11,7 @@ use Rattle.std.proofs.shelf.Lists.{append-assoc, append-nil, drop-more, drop-al
 use Rattle.std.proofs.shelf.Tests.{eqb-true, cases-lt}
 use Rattle.spec.specs.Bytes.{Bytes}
 use Rattle.rows.specs.Rows.{rowsOf}
-use Rattle.wire.specs.Read.{Read, got, stops, past, turn, next, readList}
+use Rattle.wire.specs.Read.{Read, got, stops, past, next, readList}
 use Rattle.wire.proofs.Exact.{got-stops, got-long, got-same}
 use Rattle.reader.proofs.Along.{list-skip, list-one}
 use Rattle.copy.specs.Placed.{endOf, walked}
@@ -98,15 +98,19 @@ module _ {X : Type 0} (r : Bytes → Read X) (bs : Bytes) (at : ℕ) where
           is = w .4;
           others = w .2;
           split = w .6;
-          on = λ e′ h. (record {
-            before = p .before ++ (w .0 ∷ []);
-            behind = w .2;
-            long = p .long;
-            rest = w .3;
-            whole = p .whole ∙ ap (λ ys. got ys (p .long)) (ap (λ ys. p .before ++ ys) (w .6) ∙ sym (append-assoc (p .before) (w .0 ∷ []) (w .2)));
-            left = ap (λ k. readList r 0 (drop k bs)) h ∙ w .5;
-            ends = omega (arith, w .7, p .ends, h);
-          }, refl, refl);
+          on = λ e′ h. (
+            record {
+              before = p .before ++ (w .0 ∷ []);
+              behind = w .2;
+              long = p .long;
+              rest = w .3;
+              whole = p .whole ∙ ap (λ ys. got ys (p .long)) (ap (λ ys. p .before ++ ys) (w .6) ∙ sym (append-assoc (p .before) (w .0 ∷ []) (w .2)));
+              left = ap (λ k. readList r 0 (drop k bs)) h ∙ w .5;
+              ends = omega (arith, w .7, p .ends, h);
+            },
+            refl,
+            refl,
+          );
         }
 
 pub rows-append : {X : Type 0} (f : X → List ℕ) (xs ys : List X) → rowsOf f (xs ++ ys) ≡ rowsOf f xs ++ rowsOf f ys

@@ -1,10 +1,10 @@
 -- Trees and their fields, one after another, as copying goes through them.
 use mathlib.Core.Path.{_≡_, refl, sym, _∙_, ap, subst}
 use mathlib.Core.Bool.{Bool, true, false, cond, _&&_}
-use mathlib.Core.List.{List, [], _∷_, _++_, map}
+use mathlib.Core.List.{List, [], _∷_, _++_}
 use mathlib.Core.Option.{Option, some, none}
 use mathlib.Core.Logic.{⊎-elim}
-use Prim.Native.Nat.{ℕ, zero, suc, _+_, _-_, _≤_, _<_}
+use Prim.Native.Nat.{ℕ, zero, suc, _+_, _-_, _<_}
 use native.Mathlib.Nat.{add-zero}
 use native.Mathlib.Omega.{arith}
 use lib.Dec.{eqb}
@@ -12,18 +12,18 @@ use lib.ListN.{length, getD, set, drop}
 use Rattle.std.proofs.shelf.Lists.{length-append, drop-more, drop-all, drop-drop, getD-map, length-map}
 use Rattle.std.proofs.shelf.Tests.{cases-lt, cases-bool, and-parts}
 use Rattle.spec.specs.Bytes.{Bytes}
-use Rattle.laws.proofs.Texts.{false-true, none-some}
+use Rattle.laws.proofs.Texts.{false-true}
 use Rattle.rows.specs.Rows.{headed}
-use Rattle.wire.specs.Read.{Read, got, stops, past, turn, follow, nth, gotOne, readOne}
-use Rattle.wire.specs.Tags.{ExprTag, boolTag, intTag, stringTag, entityTag, setTag, recordTag, varTag, iteTag, andTag, orTag, notTag, negTag, isEmptyTag, likeTag, isTag, binaryTag, getAttrTag, hasAttrTag, TypeTag, ScopeTag, anyTag, eqTag, memTag, isMemTag, ActionScopeTag, scopeTag, inAnyTag}
-use Rattle.wire.specs.Grammar.{Small, truth, variable, operator, boolType, effect, conditionKind, Choice, choices, Kind, value, expr, type, scope, actionScope, uid, attrs, recordType, condition, entity, entityEntry, actionEntry, request, Tree, Field, Fields, no, one, more, Content, Contents, Tag, exprTags, typeTags, scopeTags, actionScopeTags, admitted, readTagOf, readTag, fields, make, Reader, readField, readFields, readNode}
+use Rattle.wire.specs.Read.{Read, got, past, turn, follow, nth, gotOne, readOne}
+use Rattle.wire.specs.Tags.{boolTag, intTag, stringTag, entityTag, setTag, recordTag, varTag, iteTag, andTag, orTag, notTag, negTag, isEmptyTag, likeTag, isTag, binaryTag, getAttrTag, hasAttrTag, anyTag, eqTag, memTag, isMemTag, scopeTag, inAnyTag}
+use Rattle.wire.specs.Grammar.{Small, truth, variable, operator, boolType, effect, conditionKind, Choice, choices, Kind, value, expr, type, scope, actionScope, uid, attrs, recordType, condition, entity, entityEntry, actionEntry, request, Tree, Fields, one, Contents, Tag, exprTags, typeTags, scopeTags, actionScopeTags, admitted, readTagOf, readTag, fields, make, Reader, readField, readFields, readNode}
 use Rattle.wire.specs.Sizes.{smallNumber}
 use Rattle.wire.proofs.Exact.{got-stops, got-long, got-same}
 use Rattle.wire.proofs.Fields.{nth-number}
 use Rattle.reader.specs.declared.grammar.Field.{Field as CodeField}
 use Rattle.reader.specs.declared.grammar.Form.{Form}
-use Rattle.reader.specs.Code.{fieldOf, fieldsOf, rowOf, tableOf, KindForms, onlyForm, byTag, formsIn}
-use Rattle.reader.proofs.Trees.{Tagged, tagged, untagged}
+use Rattle.reader.specs.Code.{fieldOf, fieldsOf, rowOf, tableOf, onlyForm, byTag, formsIn}
+use Rattle.reader.proofs.Trees.{tagged, untagged}
 use Rattle.copy.specs.declared.leaves.Copied.{Copied}
 use Rattle.copy.specs.Copied.{rowTree, rowField, rowFields, plain, plainField, plainFields}
 use Rattle.copy.specs.Writing.{written, Done, done, after, Room}
@@ -212,6 +212,7 @@ nth-there {T} xs f h b rest g n e = go (nth xs b) e
     kept : (y : T) (z : Bool) → gotOne (cond z none (some y)) ≡ got g n → some y ≡ some g
     kept y true q = got-stops g n 0 (sym q)
     kept y false q = ap (λ w. some w) (got-same _ _ _ _ q)
+
     go : (o : Option T) → gotOne (admitted f h o) ≡ got g n → o ≡ some g
     go (some y) q = kept y (f y && eqb h 0) q
     go none q = got-stops g n 0 (sym q)

@@ -79,6 +79,7 @@ exprs-row xs = ap (λ n. n ∷ rowExprs (toExprs xs)) (count xs) ∙ ap (λ r. l
     count : (ys : List Expr) → countExprs (toExprs ys) ≡ length ys
     count [] = refl
     count (y ∷ ys) = rw (count ys) (omega arith)
+
     rows : (ys : List Expr) → rowExprs (toExprs ys) ≡ rowsOf rowExpr ys
     rows [] = refl
     rows (y ∷ ys) = ap (λ r. rowExpr y ++ r) (rows ys)
@@ -89,6 +90,7 @@ expr-attrs-row xs = ap (λ n. n ∷ rowExprAttrs (toExprAttrs xs)) (count xs) �
     count : (ys : List (Text × Expr)) → countAttrs (toExprAttrs ys) ≡ length ys
     count [] = refl
     count (y ∷ ys) = rw (count ys) (omega arith)
+
     rows : (ys : List (Text × Expr)) → rowExprAttrs (toExprAttrs ys) ≡ rowsOf (λ f. codeText (f .0) ++ rowExpr (f .1)) ys
     rows [] = refl
     rows (y ∷ ys) = ap (λ r. codeText (y .0) ++ (rowExpr (y .1) ++ r)) (rows ys) ∙ sym (append-assoc (codeText (y .0)) (rowExpr (y .1)) _)
@@ -99,6 +101,7 @@ types-row xs = ap (λ n. n ∷ rowTypes (toTypes xs)) (count xs) ∙ ap (λ r. l
     count : (ys : List (Bool × (Text × CedarType))) → countTypes (toTypes ys) ≡ length ys
     count [] = refl
     count (y ∷ ys) = rw (count ys) (omega arith)
+
     rows : (ys : List (Bool × (Text × CedarType))) → rowTypes (toTypes ys) ≡ rowsOf (rowFields (more (small truth) (more text (one (node type))))) ys
     rows [] = refl
     rows (y ∷ ys) =

@@ -2,6 +2,7 @@
 use mathlib.Core.Path.{_≡_, refl, sym, _∙_, ap}
 use mathlib.Core.Bool.{Bool, true, false, cond}
 use mathlib.Core.List.{List, [], _∷_}
+use mathlib.Core.Option.{some}
 use Prim.Native.Nat.{ℕ, zero, suc, _+_, _*_, _≤_, _<_}
 use native.Mathlib.Omega.{arith}
 use lib.Dec.{leb, eqb}
@@ -12,6 +13,9 @@ use Rattle.spec.specs.Bytes.{Bytes}
 use Rattle.spec.specs.Basics.{Text}
 use Rattle.wire.specs.Read.{Read, got, stops, past, turn, follow, bigEndian, readWord, readRun, readText, readElements, readPattern}
 use Rattle.wire.proofs.Exact.{got-stops, got-long, got-same}
+
+pub some-same : {X : Type 0} (x y : X) → some x ≡ some y → x ≡ y
+some-same x y e = cc
 
 -- ---- one thing and another behind it
 pub follow-there : {X Y : Type 0} (R : Read X) (bs : Bytes) (f : X → Bytes → Read Y) (y : Y) (m : ℕ) → follow R bs f ≡ got y m → (x : X) × (n : ℕ) × (k : ℕ) × (R ≡ got x n) × (f x (drop n bs) ≡ got y k) × (m ≡ n + k)
@@ -106,6 +110,7 @@ elements-there (suc n) (a ∷ (b ∷ bs)) ps m e = go (λ qs k. elements-there n
     made : ((qs : List ℕ) (k : ℕ) → readElements n bs ≡ got qs k → Elements bs n qs k) → (p : ℕ) → p ≡ a * 256 + b → (R : Read (List ℕ)) → readElements n bs ≡ R → past 2 (turn (λ qs. p ∷ qs) R) ≡ got ps m → Elements (a ∷ (b ∷ bs)) (suc n) ps m
     made more p h (got qs k) q s = one-more n a b p k m bs qs ps h (sym (got-same _ _ _ _ s)) (sym (got-long _ _ _ _ s)) (more qs k q)
     made more p h (stops k) q s = got-stops ps m (2 + k) (sym s)
+
     go : ((qs : List ℕ) (k : ℕ) → readElements n bs ≡ got qs k → Elements bs n qs k) → (x y z : Bool) → eqb a 0 ≡ x → eqb a 1 ≡ y → eqb b 0 ≡ z →
         cond x (past 2 (turn (λ qs. b ∷ qs) (readElements n bs))) (cond y (cond z (past 2 (turn (λ qs. 256 ∷ qs) (readElements n bs))) (stops 1)) (stops 0)) ≡ got ps m → Elements (a ∷ (b ∷ bs)) (suc n) ps m
     go more true y z p q r s = let h : b ≡ a * 256 + b = omega (arith, eqb-true _ _ p) in made more b h (readElements n bs) refl s

@@ -1,12 +1,11 @@
 -- What stands in the bytes where a value was read, by the byte that tells its form.
 use mathlib.Core.Path.{_≡_, refl, sym, _∙_, ap, subst}
-use mathlib.Core.Bool.{Bool, true, false, cond, _&&_}
+use mathlib.Core.Bool.{Bool}
 use mathlib.Core.List.{List, [], _∷_}
 use mathlib.Core.Option.{Option, some, none}
 use mathlib.Core.Logic.{⊎-elim}
 use Prim.Native.Nat.{ℕ, zero, suc, _+_, _-_, _≤_, _<_}
 use native.Mathlib.Omega.{arith}
-use lib.Dec.{eqb}
 use lib.ListN.{length, getD, drop}
 use Rattle.std.proofs.shelf.Lists.{drop-more, drop-all, length-drop}
 use Rattle.std.proofs.shelf.Tests.{cases-lt}
@@ -15,24 +14,21 @@ use Rattle.spec.specs.Basics.{Text}
 use Rattle.spec.specs.Values.{Value, Attrs}
 use Rattle.laws.proofs.Texts.{none-some}
 use Rattle.rows.specs.Rows.{valueTag, payload, behindOf, rowAttrs}
-use Rattle.wire.specs.Read.{Read, got, stops, past, turn, nth, gotOne, bigEndian, readWord, readText, readOne, readList}
+use Rattle.wire.specs.Read.{Read, got, past, turn, nth, gotOne, bigEndian, readWord, readText, readOne, readList}
 use Rattle.wire.specs.Tags.{ValueTag, boolTag, intTag, stringTag, entityTag, setTag, recordTag}
-use Rattle.wire.specs.Grammar.{Kind, value, attrs, truth, choices, Contents, Tag, valueTags, innerValue, valueFields, makeValue, text, two, node, admitted, readTagOf, readTag, readFields, readNode}
-use Rattle.wire.proofs.Exact.{got-stops, got-long, got-same}
+use Rattle.wire.specs.Grammar.{value, attrs, truth, choices, Contents, valueTags, innerValue, valueFields, makeValue, text, two, node, admitted, readTagOf, readTag, readFields, readNode}
+use Rattle.wire.proofs.Exact.{got-stops, got-long}
 use Rattle.wire.proofs.Fields.{nth-number}
 use Rattle.copy.specs.declared.leaves.Copied.{Copied}
 use Rattle.copy.specs.Copied.{rowFields}
-use Rattle.copy.specs.Writing.{written, done, after, Room}
+use Rattle.copy.specs.Writing.{written, done, after}
 use Rattle.copy.specs.Placed.{setRow, recordRow}
 use Rattle.copy.proofs.Writes.{wrote, is-after}
-use Rattle.copy.proofs.There.{turn-there, word-there}
+use Rattle.copy.proofs.There.{some-same, turn-there, word-there}
 use Rattle.copy.proofs.Parts.{past-there, list-byte}
 use Rattle.copy.proofs.Pieces.{Node, node-there, nth-there, small-there}
 
 -- ---- the byte
-some-same : {X : Type 0} (x y : X) → some x ≡ some y → x ≡ y
-some-same x y e = cc
-
 nth-below : {X : Type 0} (xs : List X) (b : ℕ) (x : X) → nth xs b ≡ some x → b < length xs
 nth-below [] b x e = none-some e
 nth-below (y ∷ ys) zero x e = omega arith
@@ -182,5 +178,5 @@ attrs-there bs at h x n e =
     let w = node-there attrs bs at h x n e in
     let none : 0 ≡ w .takes = got-long tt (w .tag) 0 (w .takes) (w .opens) in
     let r : readList (readFields (readNode (h - 1)) (two text (node value))) 0 (drop at bs) ≡ got (w .contents) n =
-        ap (λ k. readList (readFields (readNode (h - 1)) (two text (node value))) 0 (drop k bs)) (omega (arith, none)) ∙ w .holds ∙ ap (λ k. got (w .contents) k) (omega (arith, none, w .long)) in
+    ap (λ k. readList (readFields (readNode (h - 1)) (two text (node value))) 0 (drop k bs)) (omega (arith, none)) ∙ w .holds ∙ ap (λ k. got (w .contents) k) (omega (arith, none, w .long)) in
     record { high = w .high; inside = list-byte (readFields (readNode (h - 1)) (two text (node value))) bs at (w .contents) n r .0; contents = w .contents; reads = r; is = ap rowAttrs (w .is) }

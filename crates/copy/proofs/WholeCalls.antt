@@ -8,22 +8,21 @@ use native.Mathlib.Omega.{arith}
 use lib.Dec.{eqb}
 use lib.ListN.{length, getD, drop}
 use Rattle.std.proofs.shelf.Lists.{getD-map, length-map}
-use Rattle.std.proofs.shelf.Tests.{eqb-true}
 use Rattle.spec.specs.Bytes.{Bytes}
 use Rattle.spec.specs.Calls.{Call, setSchema, putPolicy, removePolicy, putEntity, removeEntity, validatePolicies, authorize, malformed}
 use Rattle.laws.proofs.Texts.{none-some}
-use Rattle.wire.specs.Read.{Read, got, stops, past, turn, follow, nth, gotOne, readOne}
+use Rattle.wire.specs.Read.{Read, got, stops, turn, nth, gotOne, readOne}
 use Rattle.wire.specs.Tags.{CallTag, setSchemaTag, putPolicyTag, removePolicyTag, putEntityTag, removeEntityTag, validateTag, authorizeTag}
 use Rattle.wire.specs.Grammar.{Fields, Contents, callTags, callFields, makeCall, readFields, readNode, callHeight, readCall, whole, decode}
-use Rattle.wire.proofs.Exact.{got-stops, got-long, got-same}
+use Rattle.wire.proofs.Exact.{got-stops, got-long}
 use Rattle.reader.specs.declared.grammar.Form.{Form}
 use Rattle.reader.specs.Code.{fieldsOf, rowOf, tableOf}
 use Rattle.copy.specs.declared.leaves.Copied.{Copied}
-use Rattle.copy.specs.Copied.{rowFields, plainFields}
+use Rattle.copy.specs.Copied.{rowFields}
 use Rattle.copy.specs.Writing.{written, done, after, Room}
-use Rattle.copy.specs.Carried.{rowCall, Carries}
-use Rattle.copy.proofs.Writes.{Wrote, wrote}
-use Rattle.copy.proofs.There.{follow-there, turn-there}
+use Rattle.copy.specs.Carried.{rowCall}
+use Rattle.copy.proofs.Writes.{wrote}
+use Rattle.copy.proofs.There.{some-same, follow-there, turn-there}
 
 -- ---- the kind of a call
 abbrev pub tagOf : Call → Option CallTag
@@ -44,9 +43,6 @@ made putEntityTag x = refl
 made removeEntityTag x = refl
 made validateTag x = refl
 made authorizeTag x = refl
-
-some-same : {X : Type 0} (x y : X) → some x ≡ some y → x ≡ y
-some-same x y e = cc
 
 -- ---- a call was read, and what it carries with it
 whole-there : (n : ℕ) (R : Read Call) (g : CallTag) → tagOf (whole n R) ≡ some g → (k : ℕ) × (R ≡ got (whole n R) k)

@@ -1,5 +1,5 @@
 -- Rows written among others.
-use mathlib.Core.Path.{_≡_, refl, sym, _∙_, ap}
+use mathlib.Core.Path.{_≡_, sym, _∙_, ap}
 use mathlib.Core.List.{List, [], _∷_, _++_}
 use Prim.Native.Nat.{ℕ, _+_, _-_, _≤_, _<_}
 use native.Mathlib.Nat.{add-zero}
@@ -7,9 +7,9 @@ use native.Mathlib.Omega.{arith}
 use lib.ListN.{length, getD, set, take, drop}
 use Rattle.std.proofs.shelf.Lists.{length-append, length-drop, length-take-le, append-assoc, take-append-drop, drop-more, take-more, set-at, take-at, take-take, take-append-le, drop-at, drop-drop, drop-append-le, drop-take}
 use Rattle.wire.proofs.Exact.{take-past}
-use Rattle.wire.specs.Read.{Read, got, stops}
+use Rattle.wire.specs.Read.{Read, got}
 use Rattle.copy.specs.declared.leaves.Copied.{Copied}
-use Rattle.copy.specs.Writing.{written, Done, done, after, Room}
+use Rattle.copy.specs.Writing.{written, done, after}
 
 pub written-none : (xs : List ℕ) (to : ℕ) → written xs to [] ≡ xs
 written-none xs to = rw (add-zero to) (take-append-drop to xs)
@@ -84,11 +84,11 @@ written-apart xs a ys b zs h l =
     let S : List ℕ = drop (b + length zs) xs in
     let before : take a (take b xs ++ (zs ++ S)) ≡ take a xs = take-append-le a (take b xs) (zs ++ S) (omega (arith, lb)) ∙ take-take a b xs (omega arith) in
     let between : drop (a + length ys) (take b xs ++ (zs ++ S)) ≡ take j D ++ (zs ++ S) =
-        drop-append-le (a + length ys) (take b xs) (zs ++ S) (omega (arith, lb)) ∙ ap (λ n. drop (a + length ys) (take n xs) ++ (zs ++ S)) (sym bj) ∙ ap (λ q. q ++ (zs ++ S)) (drop-take (a + length ys) j xs) in
+    drop-append-le (a + length ys) (take b xs) (zs ++ S) (omega (arith, lb)) ∙ ap (λ n. drop (a + length ys) (take n xs) ++ (zs ++ S)) (sym bj) ∙ ap (λ q. q ++ (zs ++ S)) (drop-take (a + length ys) j xs) in
     let first : take b ((take a xs ++ ys) ++ D) ≡ (take a xs ++ ys) ++ take j D =
-        ap (λ n. take n ((take a xs ++ ys) ++ D)) (sym bj) ∙ ap (λ n. take (n + j) ((take a xs ++ ys) ++ D)) (sym la) ∙ take-past (take a xs ++ ys) D j in
+    ap (λ n. take n ((take a xs ++ ys) ++ D)) (sym bj) ∙ ap (λ n. take (n + j) ((take a xs ++ ys) ++ D)) (sym la) ∙ take-past (take a xs ++ ys) D j in
     let last : drop (b + length zs) ((take a xs ++ ys) ++ D) ≡ S =
-        ap (λ n. drop n ((take a xs ++ ys) ++ D)) (sym bk) ∙ sym (drop-drop k (a + length ys) ((take a xs ++ ys) ++ D)) ∙ ap (λ q. drop k q) (drop-at (take a xs ++ ys) D (a + length ys) la) ∙ drop-drop k (a + length ys) xs ∙ ap (λ n. drop n xs) bk in
+    ap (λ n. drop n ((take a xs ++ ys) ++ D)) (sym bk) ∙ sym (drop-drop k (a + length ys) ((take a xs ++ ys) ++ D)) ∙ ap (λ q. drop k q) (drop-at (take a xs ++ ys) D (a + length ys) la) ∙ drop-drop k (a + length ys) xs ∙ ap (λ n. drop n xs) bk in
     ap (λ q. q ++ (ys ++ drop (a + length ys) (take b xs ++ (zs ++ S)))) before
     ∙ ap (λ q. take a xs ++ (ys ++ q)) between
     ∙ sym (append-assoc (take a xs) ys (take j D ++ (zs ++ S)))

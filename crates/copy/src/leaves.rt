@@ -1,7 +1,7 @@
 // Copies what has no parts: numbers, texts and patterns.
 ghost use mathlib.Core.Path.{_≡_};
 ghost use mathlib.Core.List.{[], _∷_};
-ghost use Prim.Native.Nat.{ℕ, _+_, _<_, _≤_};
+ghost use Prim.Native.Nat.{_+_, _<_, _≤_};
 ghost use lib.ListN.{length, getD, drop, take};
 ghost use Rattle.spec.specs.Values.{codeText};
 ghost use Rattle.wire.specs.Read.{bigEndian, readWord, readText, readPattern};

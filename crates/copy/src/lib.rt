@@ -1,24 +1,25 @@
 // Copies what a call carries off its bytes into rows of numbers.
 ghost use mathlib.Core.Path.{_≡_};
-ghost use Prim.Native.Nat.{ℕ, _+_};
+ghost use Prim.Native.Nat.{_+_};
 ghost use lib.ListN.{length};
 ghost use Rattle.spec.specs.Calls.{setSchema, putPolicy, putEntity, authorize};
 ghost use Rattle.wire.specs.Grammar.{decode};
 ghost use Rattle.copy.specs.Writing.{written};
 ghost use Rattle.copy.specs.Carried.{rowCall, Carries, RoomBySize};
-use reader::grammar::Items;
-use reader::grammar::Kind;
-use reader::grammar::calls;
-use reader::grammar::item_fields;
 use crate::plain::fields;
 use crate::plain::list;
 use crate::plain::node;
 use crate::values::attrs;
 use crate::walk::trees;
+use reader::grammar::Items;
+use reader::grammar::Kind;
+use reader::grammar::calls;
+use reader::grammar::item_fields;
+
 mod leaves;
 mod plain;
-mod walk;
 mod values;
+mod walk;
 
 // Each of these takes the bytes of a call that was scanned, and writes the row of what it carries from `to` on: all else stays as it was. The answer is
 // where the row ends.
@@ -33,6 +34,7 @@ const PART_HEIGHT: usize = 65;
 const START: usize = 1;
 
 const SET_SCHEMA: usize = 0;
+
 const PUT_POLICY: usize = 1;
 
 pub fn schema(bytes: &[u8], rows: &mut [u64], to: usize) -> usize
@@ -40,7 +42,9 @@ pub fn schema(bytes: &[u8], rows: &mut [u64], to: usize) -> usize
     ensures writes { λ _. ⌜ now (rows .exit) ≡ written (now (rows .entry)) to (rowCall (decode (now (bytes .entry)))) ⌝ }
     ensures ends { λ r. ⌜ r ≡ to + length (rowCall (decode (now (bytes .entry)))) ⌝ }
 {
-    fields(bytes, START, calls()[SET_SCHEMA].fields, CALL_HEIGHT, rows, to).to
+    let shape = calls()[SET_SCHEMA].fields;
+    let lists = fields(bytes, START, shape, CALL_HEIGHT, rows, to);
+    lists.to
 }
 
 pub fn policy(bytes: &[u8], rows: &mut [u64], to: usize) -> usize
@@ -48,7 +52,9 @@ pub fn policy(bytes: &[u8], rows: &mut [u64], to: usize) -> usize
     ensures writes { λ _. ⌜ now (rows .exit) ≡ written (now (rows .entry)) to (rowCall (decode (now (bytes .entry)))) ⌝ }
     ensures ends { λ r. ⌜ r ≡ to + length (rowCall (decode (now (bytes .entry)))) ⌝ }
 {
-    fields(bytes, START, calls()[PUT_POLICY].fields, CALL_HEIGHT, rows, to).to
+    let shape = calls()[PUT_POLICY].fields;
+    let parts = fields(bytes, START, shape, CALL_HEIGHT, rows, to);
+    parts.to
 }
 
 // The tags stand behind the ancestors among the bytes, and before them in the row.
@@ -61,7 +67,14 @@ pub fn entity(bytes: &[u8], rows: &mut [u64], to: usize) -> usize
     let attributes = attrs(bytes, uid.end, PART_HEIGHT, rows, uid.to);
     let ancestors = trees(bytes, attributes.end, Kind::Uid, PART_HEIGHT);
     let tags = attrs(bytes, ancestors.end, PART_HEIGHT, rows, attributes.to);
-    list(bytes, attributes.end, item_fields(Items::Uids), PART_HEIGHT, rows, tags.to).to
+    list(
+        bytes,
+        attributes.end,
+        item_fields(Items::Uids),
+        PART_HEIGHT,
+        rows,
+        tags.to,
+    ).to
 }
 
 pub fn request(bytes: &[u8], rows: &mut [u64], to: usize) -> usize
@@ -70,7 +83,14 @@ pub fn request(bytes: &[u8], rows: &mut [u64], to: usize) -> usize
     ensures ends { λ r. ⌜ r ≡ to + length (rowCall (decode (now (bytes .entry)))) ⌝ }
 {
     let principal = node(bytes, START, Kind::Uid, PART_HEIGHT, rows, to);
-    let action = node(bytes, principal.end, Kind::Uid, PART_HEIGHT, rows, principal.to);
+    let action = node(
+        bytes,
+        principal.end,
+        Kind::Uid,
+        PART_HEIGHT,
+        rows,
+        principal.to,
+    );
     let resource = node(bytes, action.end, Kind::Uid, PART_HEIGHT, rows, action.to);
     attrs(bytes, resource.end, PART_HEIGHT, rows, resource.to).to
 }
@@ -132,7 +152,35 @@ mod tests {
         // the entity type T, whose attribute k is a required truth
         gives(
             &[
-                0, 1, 0, 0, 0, 0, 0, 0, 0, 1, 84, 0, 1, 1, 0, 0, 0, 0, 0, 0, 0, 1, 107, 0, 0, 0, 0, 0, 0,
+                0,
+                1,
+                0,
+                0,
+                0,
+                0,
+                0,
+                0,
+                0,
+                1,
+                84,
+                0,
+                1,
+                1,
+                0,
+                0,
+                0,
+                0,
+                0,
+                0,
+                0,
+                1,
+                107,
+                0,
+                0,
+                0,
+                0,
+                0,
+                0,
             ],
             &[1, 1, 84, 0, 1, 1, 1, 107, 0, 3, 0, 0, 0],
         )
@@ -143,7 +191,36 @@ mod tests {
         // permit(principal, action, resource) when { principal like "*" }, with the id "p"
         gives(
             &[
-                1, 0, 0, 0, 0, 0, 0, 0, 1, 112, 0, 0, 0, 0, 1, 0, 11, 0, 0, 0, 0, 0, 0, 0, 1, 1, 0, 4, 0, 0,
+                1,
+                0,
+                0,
+                0,
+                0,
+                0,
+                0,
+                0,
+                1,
+                112,
+                0,
+                0,
+                0,
+                0,
+                1,
+                0,
+                11,
+                0,
+                0,
+                0,
+                0,
+                0,
+                0,
+                0,
+                1,
+                1,
+                0,
+                4,
+                0,
+                0,
             ],
             &[1, 112, 0, 0, 2, 0, 2, 0, 2, 1, 0, 11, 7, 1, 256, 4, 3, 0],
         )
@@ -154,10 +231,127 @@ mod tests {
         // T::"a" with the attribute k, the set of true and "hi", in T::"b", and with the tag t, 5
         gives(
             &[
-                3, 0, 0, 0, 0, 0, 0, 0, 1, 84, 0, 0, 0, 0, 0, 0, 0, 1, 97, 1, 0, 0, 0, 0, 0, 0, 0, 1, 107, 4, 1, 0, 1, 1, 2, 0, 0, 0, 0, 0, 0, 0, 2, 104, 105, 0, 0, 1, 0, 0, 0, 0, 0, 0, 0, 1, 84, 0, 0, 0, 0, 0, 0, 0, 1, 98, 0, 1, 0, 0, 0, 0, 0, 0, 0, 1, 116, 1, 0, 0, 0, 0, 0, 0, 0, 5, 0,
+                3,
+                0,
+                0,
+                0,
+                0,
+                0,
+                0,
+                0,
+                1,
+                84,
+                0,
+                0,
+                0,
+                0,
+                0,
+                0,
+                0,
+                1,
+                97,
+                1,
+                0,
+                0,
+                0,
+                0,
+                0,
+                0,
+                0,
+                1,
+                107,
+                4,
+                1,
+                0,
+                1,
+                1,
+                2,
+                0,
+                0,
+                0,
+                0,
+                0,
+                0,
+                0,
+                2,
+                104,
+                105,
+                0,
+                0,
+                1,
+                0,
+                0,
+                0,
+                0,
+                0,
+                0,
+                0,
+                1,
+                84,
+                0,
+                0,
+                0,
+                0,
+                0,
+                0,
+                0,
+                1,
+                98,
+                0,
+                1,
+                0,
+                0,
+                0,
+                0,
+                0,
+                0,
+                0,
+                1,
+                116,
+                1,
+                0,
+                0,
+                0,
+                0,
+                0,
+                0,
+                0,
+                5,
+                0,
             ],
             &[
-                1, 84, 1, 97, 16, 1, 5, 4, 7, 1, 107, 9, 2, 0, 1, 2, 6, 2, 104, 105, 7, 1, 5, 1, 5, 1, 116, 1, 1, 84, 1, 98,
+                1,
+                84,
+                1,
+                97,
+                16,
+                1,
+                5,
+                4,
+                7,
+                1,
+                107,
+                9,
+                2,
+                0,
+                1,
+                2,
+                6,
+                2,
+                104,
+                105,
+                7,
+                1,
+                5,
+                1,
+                5,
+                1,
+                116,
+                1,
+                1,
+                84,
+                1,
+                98,
             ],
         )
     }
@@ -167,7 +361,62 @@ mod tests {
         // may T::"a" do T::"b" to T::"c", with no context
         gives(
             &[
-                6, 0, 0, 0, 0, 0, 0, 0, 1, 84, 0, 0, 0, 0, 0, 0, 0, 1, 97, 0, 0, 0, 0, 0, 0, 0, 1, 84, 0, 0, 0, 0, 0, 0, 0, 1, 98, 0, 0, 0, 0, 0, 0, 0, 1, 84, 0, 0, 0, 0, 0, 0, 0, 1, 99, 0,
+                6,
+                0,
+                0,
+                0,
+                0,
+                0,
+                0,
+                0,
+                1,
+                84,
+                0,
+                0,
+                0,
+                0,
+                0,
+                0,
+                0,
+                1,
+                97,
+                0,
+                0,
+                0,
+                0,
+                0,
+                0,
+                0,
+                1,
+                84,
+                0,
+                0,
+                0,
+                0,
+                0,
+                0,
+                0,
+                1,
+                98,
+                0,
+                0,
+                0,
+                0,
+                0,
+                0,
+                0,
+                1,
+                84,
+                0,
+                0,
+                0,
+                0,
+                0,
+                0,
+                0,
+                1,
+                99,
+                0,
             ],
             &[1, 84, 1, 97, 1, 84, 1, 98, 1, 84, 1, 99, 2, 0],
         )

@@ -1,7 +1,7 @@
 // Copies trees field by field: all but values, and what holds values.
 ghost use mathlib.Core.Bool.{true};
 ghost use mathlib.Core.Path.{_≡_};
-ghost use Prim.Native.Nat.{ℕ, _+_, _-_, _<_, _≤_};
+ghost use Prim.Native.Nat.{_+_, _-_, _≤_};
 ghost use lib.ListN.{length, drop};
 ghost use Rattle.rows.specs.Rows.{counted};
 ghost use Rattle.wire.specs.Read.{readList};
@@ -9,19 +9,25 @@ ghost use Rattle.wire.specs.Grammar.{readField, readFields, readNode};
 ghost use Rattle.reader.specs.Code.{kindOf, fieldOf, fieldsOf};
 ghost use Rattle.copy.specs.Copied.{rowTree, rowField, rowFields, plain, plainField, plainFields};
 ghost use Rattle.copy.specs.Writing.{done, after, Room, Inside};
-use reader::grammar::Field;
-use reader::grammar::Form;
-use reader::grammar::Forms;
-use reader::grammar::Kind;
-use reader::grammar::forms_of;
-use reader::grammar::item_fields;
 use crate::leaves::Copied;
 use crate::leaves::byte;
 use crate::leaves::pattern;
 use crate::leaves::text;
 use crate::leaves::word;
+use reader::grammar::Field;
+use reader::grammar::Forms;
+use reader::grammar::Kind;
+use reader::grammar::forms_of;
+use reader::grammar::item_fields;
 
-pub(crate) fn fields(bytes: &[u8], at: usize, shape: &[Field], height: usize, rows: &mut [u64], to: usize) -> Copied
+pub(crate) fn fields(
+    bytes: &[u8],
+    at: usize,
+    shape: &[Field],
+    height: usize,
+    rows: &mut [u64],
+    to: usize,
+) -> Copied
     requires inside { ⌜ at ≤ length (now bytes) ⌝ }
     requires flat { ⌜ plainFields (fieldsOf (now shape)) ≡ true ⌝ }
     requires room { ⌜ Room (rowFields (fieldsOf (now shape))) (readFields (readNode height) (fieldsOf (now shape)) (drop at (now bytes))) to (length (now rows)) ⌝ }
@@ -38,7 +44,14 @@ pub(crate) fn fields(bytes: &[u8], at: usize, shape: &[Field], height: usize, ro
     Copied { end, to: next }
 }
 
-fn field(bytes: &[u8], at: usize, shape: Field, height: usize, rows: &mut [u64], to: usize) -> Copied
+fn field(
+    bytes: &[u8],
+    at: usize,
+    shape: Field,
+    height: usize,
+    rows: &mut [u64],
+    to: usize,
+) -> Copied
     requires inside { ⌜ at ≤ length (now bytes) ⌝ }
     requires flat { ⌜ plainField (fieldOf shape) ≡ true ⌝ }
     requires room { ⌜ Room (rowField (fieldOf shape)) (readField (readNode height) (fieldOf shape) (drop at (now bytes))) to (length (now rows)) ⌝ }
@@ -57,7 +70,14 @@ fn field(bytes: &[u8], at: usize, shape: Field, height: usize, rows: &mut [u64],
 }
 
 // How many elements there are stands before them, and is known behind them.
-pub(crate) fn list(bytes: &[u8], at: usize, shape: &[Field], height: usize, rows: &mut [u64], to: usize) -> Copied
+pub(crate) fn list(
+    bytes: &[u8],
+    at: usize,
+    shape: &[Field],
+    height: usize,
+    rows: &mut [u64],
+    to: usize,
+) -> Copied
     requires inside { ⌜ at ≤ length (now bytes) ⌝ }
     requires flat { ⌜ plainFields (fieldsOf (now shape)) ≡ true ⌝ }
     requires room { ⌜ Room (counted (rowFields (fieldsOf (now shape)))) (readList (readFields (readNode height) (fieldsOf (now shape))) 0 (drop at (now bytes))) to (length (now rows)) ⌝ }
@@ -81,7 +101,14 @@ pub(crate) fn list(bytes: &[u8], at: usize, shape: &[Field], height: usize, rows
 }
 
 // A tree of several forms is its form, the length of its row and its fields; one of a single form is its fields.
-pub(crate) fn node(bytes: &[u8], at: usize, kind: Kind, height: usize, rows: &mut [u64], to: usize) -> Copied
+pub(crate) fn node(
+    bytes: &[u8],
+    at: usize,
+    kind: Kind,
+    height: usize,
+    rows: &mut [u64],
+    to: usize,
+) -> Copied
     requires inside { ⌜ at ≤ length (now bytes) ⌝ }
     requires flat { ⌜ plain (kindOf kind) ≡ true ⌝ }
     requires room { ⌜ Room (rowTree (kindOf kind)) (readNode height (kindOf kind) (drop at (now bytes))) to (length (now rows)) ⌝ }
@@ -93,7 +120,14 @@ pub(crate) fn node(bytes: &[u8], at: usize, kind: Kind, height: usize, rows: &mu
         Forms::ByTag(table) => table,
     };
     let tag = bytes[at];
-    let body = fields(bytes, at + 1, table[tag as usize].fields, height - 1, rows, to + 2);
+    let body = fields(
+        bytes,
+        at + 1,
+        table[tag as usize].fields,
+        height - 1,
+        rows,
+        to + 2,
+    );
     rows[to + 1] = (body.to - to) as u64;
     rows[to] = tag as u64;
     body

@@ -10,12 +10,12 @@ ghost use Rattle.wire.specs.Grammar.{two, text as textField, node, value as val
 ghost use Rattle.copy.specs.Copied.{rowFields};
 ghost use Rattle.copy.specs.Writing.{written, done, after, Room, Inside};
 ghost use Rattle.copy.specs.Placed.{Stands, setRow, recordRow, valueSlot, attrSlot, attrBehind, Filled};
-use reader::grammar::Kind;
 use crate::leaves::Copied;
 use crate::leaves::eight;
 use crate::leaves::text;
 use crate::walk::named_values;
 use crate::walk::trees;
+use reader::grammar::Kind;
 
 // A truth or a number stands in the payload itself, and of anything else its offset.
 fn payload_at(bytes: &[u8], at: usize, offset: usize) -> u64
@@ -79,7 +79,15 @@ fn behind(bytes: &[u8], at: usize, height: usize, rows: &mut [u64], to: usize) -
 }
 
 // An element of the set at `home`: its slot at `place`, and what lies behind it from `next` on.
-fn element(bytes: &[u8], at: usize, height: usize, rows: &mut [u64], home: usize, place: usize, next: usize) -> Copied
+fn element(
+    bytes: &[u8],
+    at: usize,
+    height: usize,
+    rows: &mut [u64],
+    home: usize,
+    place: usize,
+    next: usize,
+) -> Copied
     requires inside { ⌜ at ≤ length (now bytes) ⌝ }
     requires order { ⌜ home ≤ place ⌝ }
     requires apart { ⌜ place + 2 ≤ next ⌝ }
@@ -118,7 +126,15 @@ fn set(bytes: &[u8], at: usize, height: usize, rows: &mut [u64], to: usize) -> C
 }
 
 // An attribute of the record at `home`: its slot at `place`, and its name and what lies behind it from `next` on.
-fn attribute(bytes: &[u8], at: usize, height: usize, rows: &mut [u64], home: usize, place: usize, next: usize) -> Copied
+fn attribute(
+    bytes: &[u8],
+    at: usize,
+    height: usize,
+    rows: &mut [u64],
+    home: usize,
+    place: usize,
+    next: usize,
+) -> Copied
     requires inside { ⌜ at ≤ length (now bytes) ⌝ }
     requires order { ⌜ home ≤ place ⌝ }
     requires apart { ⌜ place + 3 ≤ next ⌝ }

@@ -1,6 +1,6 @@
 // Goes along what stands in bytes and copies nothing: where it ends, and how many elements a list has.
 ghost use mathlib.Core.Path.{_≡_};
-ghost use Prim.Native.Nat.{ℕ, _+_, _≤_};
+ghost use Prim.Native.Nat.{_+_, _≤_};
 ghost use lib.ListN.{length, drop};
 ghost use Rattle.wire.specs.Read.{readText, readList};
 ghost use Rattle.wire.specs.Grammar.{two, text, node, value, readFields, readNode};

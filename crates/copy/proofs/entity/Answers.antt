@@ -1,21 +1,20 @@
 use mathlib.Core.Path.{_≡_, refl, sym, _∙_, ap, subst}
-use mathlib.Core.List.{List, _++_}
+use mathlib.Core.List.{List}
 use Prim.Native.Nat.{ℕ, _+_}
 use native.Mathlib.Omega.{arith}
 use lib.ListN.{length, drop}
 use Rattle.spec.specs.Bytes.{Bytes}
 use Rattle.spec.specs.Values.{codeUID}
 use Rattle.rows.specs.Rows.{counted, rowAttrs}
-use Rattle.wire.specs.Read.{got, readList}
+use Rattle.wire.specs.Read.{readList}
 use Rattle.wire.specs.Tags.{putEntityTag}
-use Rattle.wire.specs.Grammar.{uid, attrs, Fields, one, node, readFields, readNode}
-use Rattle.reader.specs.Code.{fieldsOf}
+use Rattle.wire.specs.Grammar.{uid, Fields, one, node, readFields, readNode}
 use Rattle.copy.specs.Copied.{rowTree, rowFields, plainFields}
-use Rattle.copy.specs.Writing.{written, Done, done, after, Room}
-use Rattle.copy.specs.Placed.{endOf, walked}
-use Rattle.copy.proofs.Writes.{Wrote, wrote}
+use Rattle.copy.specs.Writing.{written, Done, after, Room}
+use Rattle.copy.specs.Placed.{walked}
+use Rattle.copy.proofs.Writes.{wrote}
 use Rattle.copy.proofs.WholeCalls.{tagOf, call-there}
-use Rattle.copy.proofs.FourParts.{written-four, long-four, FourAt, entity-there}
+use Rattle.copy.proofs.FourParts.{written-four, long-four, entity-there}
 use Rattle.copy.proofs.entity.Needs as need
 
 -- the ancestors, by the shape of their list's elements

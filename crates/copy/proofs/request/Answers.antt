@@ -1,20 +1,16 @@
-use mathlib.Core.Path.{_≡_, refl, sym, _∙_, ap, subst}
-use mathlib.Core.List.{List, _++_}
-use Prim.Native.Nat.{ℕ, _+_}
+use mathlib.Core.Path.{refl, sym, _∙_, ap}
+use Prim.Native.Nat.{_+_}
 use native.Mathlib.Omega.{arith}
-use lib.ListN.{length, drop}
+use lib.ListN.{length}
 use Rattle.spec.specs.Values.{codeUID}
-use Rattle.rows.specs.Rows.{counted, rowAttrs}
-use Rattle.wire.specs.Read.{got, readList}
+use Rattle.rows.specs.Rows.{rowAttrs}
 use Rattle.wire.specs.Tags.{authorizeTag}
-use Rattle.wire.specs.Grammar.{uid, attrs, Fields, one, node, readFields, readNode}
-use Rattle.reader.specs.Code.{fieldsOf}
-use Rattle.copy.specs.Copied.{rowTree, rowFields, plainFields}
-use Rattle.copy.specs.Writing.{written, Done, done, after, Room}
-use Rattle.copy.specs.Placed.{endOf, walked}
-use Rattle.copy.proofs.Writes.{Wrote, wrote}
+use Rattle.wire.specs.Grammar.{uid}
+use Rattle.copy.specs.Copied.{rowTree}
+use Rattle.copy.specs.Writing.{written}
+use Rattle.copy.proofs.Writes.{wrote}
 use Rattle.copy.proofs.WholeCalls.{tagOf, call-there}
-use Rattle.copy.proofs.FourParts.{written-four, long-four, FourAt, request-there}
+use Rattle.copy.proofs.FourParts.{written-four, long-four, request-there}
 use Rattle.copy.proofs.request.Needs as need
 
 pub node-principal-requires : need.node-principal-requires

@@ -1,5 +1,4 @@
 use mathlib.Core.Path.{refl}
-use native.Mathlib.Omega.{arith}
 use Rattle.copy.proofs.Writes.{written-one}
 use Rattle.copy.proofs.leaves.byte.Needs as need
 

@@ -1,8 +1,8 @@
-use mathlib.Core.Path.{_≡_, refl, sym, _∙_, ap}
+use mathlib.Core.Path.{sym, _∙_, ap}
 use mathlib.Core.List.{_∷_}
 use Prim.Native.Nat.{_+_}
 use native.Mathlib.Omega.{arith}
-use lib.ListN.{length, set, take, drop}
+use lib.ListN.{set}
 use Rattle.spec.specs.Values.{codeText}
 use Rattle.copy.specs.Writing.{written}
 use Rattle.copy.proofs.Writes.{written-before, is-after}

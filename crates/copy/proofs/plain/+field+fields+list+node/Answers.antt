@@ -1,23 +1,20 @@
 use mathlib.Core.Path.{_≡_, refl, sym, _∙_, ap, subst}
-use mathlib.Core.Bool.{true}
 use mathlib.Core.List.{List, [], _∷_, _++_}
-use Prim.Native.Nat.{ℕ, _+_, _-_, _≤_, _<_}
+use Prim.Native.Nat.{ℕ, _+_, _-_, _≤_}
 use native.Mathlib.Nat.{add-zero}
 use native.Mathlib.Omega.{arith}
 use lib.ListN.{length, getD, set, drop}
 use Rattle.std.proofs.shelf.Lists.{append-assoc, drop-more, drop-all, length-append, length-push}
 use Rattle.spec.specs.Bytes.{Bytes}
 use Rattle.rows.specs.Rows.{rowsOf, counted}
-use Rattle.wire.specs.Read.{Read, got, readList}
-use Rattle.wire.specs.Grammar.{Field, Fields, small, list, Reader, readField, readFields, readNode}
+use Rattle.wire.specs.Grammar.{Fields, small, list, Reader, readField, readNode}
 use Rattle.reader.specs.declared.grammar.Field.{Field as CodeField}
 use Rattle.reader.specs.declared.grammar.Field.the-variants.{Part}
-use Rattle.reader.specs.Code.{kindOf, smallOf, itemsOf, fieldOf, fieldsOf}
-use Rattle.copy.specs.declared.leaves.Copied.{Copied}
-use Rattle.copy.specs.Copied.{rowTree, rowField, rowFields, plainField, plainFields}
-use Rattle.copy.specs.Writing.{written, Done, done, after, Room, Inside}
-use Rattle.copy.proofs.Writes.{written-none, written-before, written-more, Wrote, wrote, is-after}
-use Rattle.copy.proofs.Parts.{Part as Walked, none-yet, byte-there, all-there, Step, step, rows-append, rows-push}
+use Rattle.reader.specs.Code.{kindOf, smallOf, fieldOf, fieldsOf}
+use Rattle.copy.specs.Copied.{rowField, rowFields, plainField, plainFields}
+use Rattle.copy.specs.Writing.{written, Done, after, Room}
+use Rattle.copy.proofs.Writes.{written-none, written-before, written-more, wrote, is-after}
+use Rattle.copy.proofs.Parts.{none-yet, byte-there, all-there, step, rows-append, rows-push}
 use Rattle.copy.proofs.Pieces
 use Rattle.copy.proofs.plain.+field+fields+list+node.Needs as need
 
@@ -57,10 +54,13 @@ field-node-requires t c κs =
 pub field-list-requires : need.field-list-requires
 field-list-requires t c κs = (
   omega arith,
-  (c .pre .inside, (
-    ap plainFields (c .item-fields .ensures .is) ∙ ap (λ y. plainField (fieldOf y)) (sym (c .in-List .is)) ∙ c .pre .flat,
-    room-items (readNode (c .args .height)) (c .args .bytes .now) (c .args .at) (c .args .to) _ _ _ (c .item-fields .ensures .is) (room-is (readNode (c .args .height)) (c .args .bytes .now) (c .args .at) (c .args .to) _ _ _ (c .in-List .is) (c .pre .room)),
-  )),
+  (
+    c .pre .inside,
+    (
+      ap plainFields (c .item-fields .ensures .is) ∙ ap (λ y. plainField (fieldOf y)) (sym (c .in-List .is)) ∙ c .pre .flat,
+      room-items (readNode (c .args .height)) (c .args .bytes .now) (c .args .at) (c .args .to) _ _ _ (c .item-fields .ensures .is) (room-is (readNode (c .args .height)) (c .args .bytes .now) (c .args .at) (c .args .to) _ _ _ (c .in-List .is) (c .pre .room)),
+    ),
+  ),
 )
 
 pub field-returns-in-Part : need.field-returns-in-Part
@@ -111,10 +111,13 @@ fields-field-part-requires t c κs =
     let v = c .loop-f .inv in
     let more = drop-more (c .args .shape .now) (c .loop-f .f-index) Part (c .loop-f-test .taken) in (
       omega (arith, v .0),
-      (v .1, (
-        Pieces.flat-more (getD (c .args .shape .now) (c .loop-f .f-index) Part) (drop (c .loop-f .f-index + 1) (c .args .shape .now)) (ap (λ fs. plainFields (fieldsOf fs)) (sym more) ∙ v .3) .0,
-        Pieces.left-first (readNode (c .args .height)) (c .args .bytes .now) (c .loop-f .end) (c .loop-f .next) (length (c .loop-f .rows)) (getD (c .args .shape .now) (c .loop-f .f-index) Part) (drop (c .loop-f .f-index + 1) (c .args .shape .now)) (subst (Pieces.Left (readNode (c .args .height)) (c .args .bytes .now) (c .loop-f .end) (c .loop-f .next) (length (c .loop-f .rows))) more (v .4)),
-      )),
+      (
+        v .1,
+        (
+          Pieces.flat-more (getD (c .args .shape .now) (c .loop-f .f-index) Part) (drop (c .loop-f .f-index + 1) (c .args .shape .now)) (ap (λ fs. plainFields (fieldsOf fs)) (sym more) ∙ v .3) .0,
+          Pieces.left-first (readNode (c .args .height)) (c .args .bytes .now) (c .loop-f .end) (c .loop-f .next) (length (c .loop-f .rows)) (getD (c .args .shape .now) (c .loop-f .f-index) Part) (drop (c .loop-f .f-index + 1) (c .args .shape .now)) (subst (Pieces.Left (readNode (c .args .height)) (c .args .bytes .now) (c .loop-f .end) (c .loop-f .next) (length (c .loop-f .rows))) more (v .4)),
+        ),
+      ),
     )
 
 pub fields-loop-f-again : need.fields-loop-f-again
@@ -125,7 +128,7 @@ fields-loop-f-again t c =
     let bs = c .args .bytes .now in
     let more = drop-more (c .args .shape .now) (c .loop-f .f-index) Part (c .loop-f-test .taken) in
     let w = Pieces.left-next r bs (c .loop-f .end) (c .loop-f .next) (length (c .loop-f .rows)) _ _ (c .loop-f .rows) (c .field-part .last .rows) (c .field-part .result) refl
-        (subst (Pieces.Left r bs (c .loop-f .end) (c .loop-f .next) (length (c .loop-f .rows))) more (v .4)) (c .field-part .ensures .reads) in (
+    (subst (Pieces.Left r bs (c .loop-f .end) (c .loop-f .next) (length (c .loop-f .rows))) more (v .4)) (c .field-part .ensures .reads) in (
       omega (arith, v .0, i .forth),
       i .ends,
       omega (arith, v .2, i .on),
@@ -182,7 +185,7 @@ list-loop-end-again t c =
     let q = s .on (c .fields-item .result .end) (w .ends) in
     let push : rowsOf f (q .0 .before) ≡ rowsOf f (p .before) ++ f (s .one) = ap (rowsOf f) (q .1) ∙ rows-push f (p .before) (s .one) in
     let same : q .0 .before ++ q .0 .behind ≡ p .before ++ p .behind =
-        ap (λ zs. zs ++ q .0 .behind) (q .1) ∙ ap (λ zs. (p .before ++ (s .one ∷ [])) ++ zs) (q .2) ∙ append-assoc (p .before) (s .one ∷ []) (s .others) ∙ ap (λ zs. p .before ++ zs) (sym (s .split)) in
+    ap (λ zs. zs ++ q .0 .behind) (q .1) ∙ ap (λ zs. (p .before ++ (s .one ∷ [])) ++ zs) (q .2) ∙ append-assoc (p .before) (s .one ∷ []) (s .others) ∙ ap (λ zs. p .before ++ zs) (sym (s .split)) in
     let long = length-append (rowsOf f (p .before)) (f (s .one)) in (
       q .0,
       omega (arith, v .1, i .forth),

@@ -1,25 +1,22 @@
 use mathlib.Core.Path.{_≡_, refl, sym, _∙_, ap}
 use mathlib.Core.List.{List, [], _∷_, _++_}
-use Prim.Native.Nat.{ℕ, _+_, _-_, _*_, _≤_, _<_}
+use Prim.Native.Nat.{ℕ, _+_, _-_, _*_}
 use native.Mathlib.Omega.{arith}
 use lib.ListN.{length, getD, set, drop}
 use Rattle.std.proofs.shelf.Lists.{length-append, length-set}
-use Rattle.spec.specs.Basics.{Text}
-use Rattle.spec.specs.Bytes.{Bytes}
-use Rattle.spec.specs.Values.{Value, codeText}
+use Rattle.spec.specs.Values.{codeText}
 use Rattle.rows.specs.Rows.{behindOf}
-use Rattle.wire.specs.Read.{Read, got, readText, readList}
-use Rattle.wire.specs.Tags.{stringTag}
-use Rattle.wire.specs.Grammar.{two, text, node, value, valueFields, readFields, readNode}
+use Rattle.wire.specs.Read.{Read, got, readText}
+use Rattle.wire.specs.Grammar.{two, text, node, value, readFields, readNode}
 use Rattle.copy.specs.declared.walk.Walked.{Walked}
 use Rattle.copy.specs.Copied.{rowFields}
-use Rattle.copy.specs.Writing.{written, done, after, Room, Inside}
-use Rattle.copy.specs.Placed.{walked, setRow, recordRow, valueSlot, attrSlot, attrBehind, Filled}
+use Rattle.copy.specs.Writing.{written}
+use Rattle.copy.specs.Placed.{walked, setRow, recordRow, valueSlot, attrSlot, attrBehind}
 use Rattle.copy.proofs.Writes.{written-none, written-one, written-more, wrote, is-after}
-use Rattle.copy.proofs.There.{PairAt, pair-there}
-use Rattle.copy.proofs.Parts.{Part, Step, byte-there, all-there, none-behind, step}
+use Rattle.copy.proofs.There.{pair-there}
+use Rattle.copy.proofs.Parts.{byte-there, all-there, none-behind, step}
 use Rattle.copy.proofs.Pieces.{both-first, both-next}
-use Rattle.copy.proofs.Filling.{Filling, two-wide, three-wide, filling-none, one-fits, filling-more, filling-last, slots-of-set, slots-of-record, set-whole, set-long, record-whole, record-long}
+use Rattle.copy.proofs.Filling.{two-wide, three-wide, filling-none, one-fits, filling-more, filling-last, slots-of-set, slots-of-record, set-whole, set-long, record-whole, record-long}
 use Rattle.copy.proofs.ValueForms
 use Rattle.copy.proofs.values.+attribute+behind+element+record+set.Needs as need
 
@@ -168,7 +165,7 @@ attribute-returns t c =
           let long = length-append (codeText (f .0)) (behindOf (f .1)) in
           let o : c .text-name .result .to - c .args .home ≡ next - c .args .home + length (codeText (f .0)) = omega (arith, a .goes, c .pre .order, c .pre .apart) in
           let behind : c .behind-value .last .rows ≡ written xs next (attrBehind f) =
-              b .rows ∙ ap (λ q. written q (c .text-name .result .to) (behindOf (f .1))) (a .rows) ∙ written-more xs next (codeText (f .0)) (behindOf (f .1)) (c .text-name .result .to) (a .goes) (omega (arith, i .fits)) in
+          b .rows ∙ ap (λ q. written q (c .text-name .result .to) (behindOf (f .1))) (a .rows) ∙ written-more xs next (codeText (f .0)) (behindOf (f .1)) (c .text-name .result .to) (a .goes) (omega (arith, i .fits)) in
           let k = c .text-name .kept .rows in
           let m = c .behind-value .kept .rows in
           record {
@@ -238,7 +235,7 @@ set-returns t c =
     let z = b .1 (c .loop-end-test .left) in
     let a = all-there (readNode (c .args .height) value) (c .args .bytes .now) (c .args .at) (c .loop-end .end) p z in
     let n : count ≡ length (p .before) =
-        omega (arith, f .full, slots-of-set 0 (p .before ++ p .behind), length-append (p .before) (p .behind), ap length (none-behind (readNode (c .args .height) value) (c .args .bytes .now) (c .args .at) (c .loop-end .end) p z)) in
+    omega (arith, f .full, slots-of-set 0 (p .before ++ p .behind), length-append (p .before) (p .behind), ap length (none-behind (readNode (c .args .height) value) (c .args .bytes .now) (c .args .at) (c .loop-end .end) p z)) in
     let w = filling-last valueSlot behindOf 2 two-wide (readNode (c .args .height) value) (c .args .bytes .now) (c .args .at) (c .args .rows .now) (c .args .to) (2 * c .trees-count .result .count) (c .loop-end .end) (c .loop-end .rows) (c .loop-end .place) (c .loop-end .next) f z count in
     let row = sym (set-whole count (p .before) n) in
     record {
@@ -298,7 +295,7 @@ record-returns t c =
     let z = b .1 (c .loop-end-test .left) in
     let a = all-there (readFields (readNode (c .args .height)) (two text (node value))) (c .args .bytes .now) (c .args .at) (c .loop-end .end) p z in
     let n : count ≡ length (p .before) =
-        omega (arith, f .full, slots-of-record 0 (p .before ++ p .behind), length-append (p .before) (p .behind), ap length (none-behind (readFields (readNode (c .args .height)) (two text (node value))) (c .args .bytes .now) (c .args .at) (c .loop-end .end) p z)) in
+    omega (arith, f .full, slots-of-record 0 (p .before ++ p .behind), length-append (p .before) (p .behind), ap length (none-behind (readFields (readNode (c .args .height)) (two text (node value))) (c .args .bytes .now) (c .args .at) (c .loop-end .end) p z)) in
     let w = filling-last attrSlot attrBehind 3 three-wide (readFields (readNode (c .args .height)) (two text (node value))) (c .args .bytes .now) (c .args .at) (c .args .rows .now) (c .args .to) (3 * c .named-values-count .result .count) (c .loop-end .end) (c .loop-end .rows) (c .loop-end .place) (c .loop-end .next) f z count in
     let row = sym (record-whole count (p .before) n) in
     record {

@@ -1,5 +1,5 @@
 -- A value in a set or record is a level of height lower; the node is filled from its front and from behind its slots.
-use Prim.Native.Nat.{ℕ, _+_, _-_, _*_, _≤_, _<_}
+use Prim.Native.Nat.{_+_, _-_, _*_, _≤_, _<_}
 use lib.ListN.{length}
 use Rattle.rows.specs.Rows.{behindOf}
 use Rattle.wire.specs.Grammar.{two, text, node, value, readFields, readNode}

@@ -1,4 +1,4 @@
-use mathlib.Core.Path.{_≡_, sym, _∙_}
+use mathlib.Core.Path.{sym, _∙_}
 use native.Mathlib.Omega.{arith}
 use Rattle.copy.proofs.ValueForms.{value-there, truth-held, number-held, offset-held}
 use Rattle.copy.proofs.values.payload_at.Needs as need

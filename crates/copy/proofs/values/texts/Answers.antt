@@ -1,6 +1,6 @@
-use mathlib.Core.Path.{refl, sym, _∙_}
+use mathlib.Core.Path.{refl, _∙_}
 use native.Mathlib.Omega.{arith}
-use lib.ListN.{length, drop}
+use lib.ListN.{drop}
 use Rattle.spec.specs.Values.{codeText}
 use Rattle.wire.specs.Read.{readText}
 use Rattle.copy.proofs.Pieces.{both-first, both-next}

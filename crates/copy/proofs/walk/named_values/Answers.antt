@@ -1,4 +1,4 @@
-use mathlib.Core.Path.{_≡_, refl, sym, _∙_, ap}
+use mathlib.Core.Path.{_≡_, refl, _∙_, ap}
 use native.Mathlib.Omega.{arith}
 use Prim.Native.Nat.{ℕ, _+_}
 use lib.ListN.{drop}
@@ -6,7 +6,7 @@ use Rattle.spec.specs.Bytes.{Bytes}
 use Rattle.wire.specs.Read.{readText}
 use Rattle.wire.specs.Grammar.{two, text, node, value, readFields, readNode}
 use Rattle.copy.specs.Placed.{endOf}
-use Rattle.copy.proofs.There.{PairAt, pair-there}
+use Rattle.copy.proofs.There.{pair-there}
 use Rattle.copy.proofs.Parts.{Part, Step, none-yet, byte-there, step, end-of, part-more, all-walked}
 use Rattle.copy.proofs.walk.named_values.Needs as need
 

@@ -1,7 +1,7 @@
-use mathlib.Core.Path.{_≡_, refl}
+use mathlib.Core.Path.{refl}
 use native.Mathlib.Omega.{arith}
-use Prim.Native.Nat.{ℕ, _+_}
-use Rattle.copy.proofs.Parts.{Part, Step, none-yet, byte-there, step, end-of, part-more, all-walked}
+use Prim.Native.Nat.{_+_}
+use Rattle.copy.proofs.Parts.{none-yet, byte-there, step, end-of, part-more, all-walked}
 use Rattle.copy.proofs.walk.trees.Needs as need
 
 pub loop-end-holds : need.loop-end-holds
