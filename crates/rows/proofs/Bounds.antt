@@ -10,9 +10,9 @@ use Rattle.spec.specs.Values.{EntityUID, Primitive, bool, int, string, entityUI
 use Rattle.spec.specs.Exprs.{UnaryOp, not, neg, isEmpty, like, is, Expr, lit, var, ite, and, or, unaryApp, binaryApp, getAttr, hasAttr, set, recordOf, Exprs, nil, cons, ExprAttrs, empty, attr}
 use Rattle.spec.specs.Policies.{Scope, any, eq, mem, is, isMem, ActionScope, inScope, actionInAny, Condition, Policy}
 use Rattle.spec.specs.Types.{CedarType, bool, int, string, entity, set, recordOf, RecordType, empty, attr, EntitySchemaEntry, ActionSchemaEntry, Schema}
-use Rattle.spec.specs.Calls.{sizeText, sizeUID, sizePrimitive, sizeValue, sizeValues, sizeAttrs, sizeOp, sizeExpr, sizeExprs, sizeExprAttrs, sizeType, sizeRecordType, sizeScope, sizeActionScope, sizeCondition, sizePolicy, sizeEntity, sizeEntry, sizeAction, sizeSchema, sizeRequest, sumOf}
+use Rattle.spec.specs.Calls.{sizeText, sizeUID, sizePrimitive, sizeValue, sizeValues, sizeAttrs, sizeOp, sizeExpr, sizeExprs, sizeExprAttrs, sizeType, sizeRecordType, sizeScope, sizeActionScope, sizeCondition, sizePolicy, sizeEntity, sizeEntry, sizeAction, sizeSchema, sizeRequest, Store, sizeStore, sumOf}
 use Rattle.spec.specs.Bytes.{effectNumber}
-use Rattle.rows.specs.Rows.{rowsOf, counted, rowPrimitive, rowUnary, rowExpr, rowExprs, rowExprAttrs, rowType, rowTypes, rowRecordType, rowScope, rowActionScope, rowCondition, rowPolicy, countValues, countFields, behindOf, entries, behindAll, attrEntries, behindAttrs, rowAttrs, rowEntity, rowEntry, rowAction, rowRequest, rowSchema, RowsAreBounded}
+use Rattle.rows.specs.Rows.{rowsOf, counted, rowPrimitive, rowUnary, rowExpr, rowExprs, rowExprAttrs, rowType, rowTypes, rowRecordType, rowScope, rowActionScope, rowCondition, rowPolicy, countValues, countFields, behindOf, entries, behindAll, attrEntries, behindAttrs, rowAttrs, rowEntity, rowEntry, rowAction, rowRequest, rowSchema, numbersOf, RowsAreBounded, StoreFitsMemory}
 
 two : (xs ys : List ℕ) → length (xs ++ ys) ≡ length xs + length ys
 two xs ys = length-append xs ys
@@ -179,3 +179,18 @@ request-long q =
 
 pub rows-are-bounded : RowsAreBounded
 rows-are-bounded = (policy-long, entity-long, schema-long, request-long)
+
+-- ---- a whole store
+sum-within : {A : Type 0} (f s : A → ℕ) → ((x : A) → f x ≤ 4 * s x) → (xs : List A) → sumOf f xs ≤ 4 * sumOf s xs
+sum-within f s k [] = omega arith
+sum-within f s k (x ∷ xs) = let a = k x in let b = sum-within f s k xs in omega (arith, a, b)
+
+store-fits : (s : Store) (capacity : ℕ) → sizeStore s ≤ capacity → numbersOf s ≤ 4 * capacity + 2
+store-fits s capacity h =
+    let a = schema-long (s .schema) in
+    let b = sum-within (λ p. length (rowPolicy p) + 1) sizePolicy policy-long (s .policies) in
+    let c = sum-within (λ e. length (rowEntity e) + 1) sizeEntity entity-long (s .entities) in
+    omega (arith, a, b, c, h)
+
+pub store-fits-memory : StoreFitsMemory
+store-fits-memory = (store-fits, (λ p h. let a = policy-long p in omega (arith, a, h)), (λ q h. let a = request-long q in omega (arith, a, h)))

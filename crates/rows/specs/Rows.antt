@@ -7,7 +7,7 @@ use Rattle.spec.specs.Values.{Primitive, bool, int, string, entityUID, Value, p
 use Rattle.spec.specs.Exprs.{UnaryOp, not, neg, isEmpty, like, is, Expr, lit, var, ite, and, or, unaryApp, binaryApp, getAttr, hasAttr, set, recordOf, Exprs, nil, cons, ExprAttrs, empty, attr}
 use Rattle.spec.specs.Policies.{Scope, any, eq, mem, is, isMem, ActionScope, inScope, actionInAny, Condition, Policy}
 use Rattle.spec.specs.Types.{CedarType, bool, int, string, entity, set, recordOf, RecordType, empty, attr, EntitySchemaEntry, ActionSchemaEntry, Schema}
-use Rattle.spec.specs.Calls.{sizePolicy, sizeEntity, sizeSchema, sizeRequest}
+use Rattle.spec.specs.Calls.{Store, sumOf, sizePolicy, sizeEntity, sizeSchema, sizeRequest, sizeStore, mostSize}
 use Rattle.spec.specs.Bytes.{varNumber, binaryNumber, boolTypeNumber, effectNumber, kindNumber}
 
 -- n things, one after the other, behind their number
@@ -192,3 +192,16 @@ RowsAreBounded =
     × ((e : Entity) → length (rowEntity e) + 1 ≤ 4 * sizeEntity e)
     × ((s : Schema) → length (rowSchema s) ≤ 4 * sizeSchema s + 2)
     × ((q : Request) → length (rowRequest q) ≤ 4 * sizeRequest q)
+
+-- a store in memory: the rows of its schema, of its policies, each behind its length, and of its entities, each with a number in the table of their places
+abbrev pub numbersOf : Store → ℕ
+numbersOf s =
+    length (rowSchema (s .schema)) + (sumOf (λ p. length (rowPolicy p) + 1) (s .policies) + sumOf (λ e. length (rowEntity e) + 1) (s .entities))
+
+-- so a store that is within its capacity takes four of eight numbers for each unit of it, and what a call carries that is at most 65,536 in size, a policy
+-- or a request, a quarter of the 2^20 numbers for a call; a schema or an entity is written where it stays
+abbrev pub StoreFitsMemory : Type 0
+StoreFitsMemory =
+    ((s : Store) (capacity : ℕ) → sizeStore s ≤ capacity → numbersOf s ≤ 4 * capacity + 2)
+    × ((p : Policy) → sizePolicy p ≤ mostSize → length (rowPolicy p) ≤ 262144)
+    × ((q : Request) → sizeRequest q ≤ mostSize → length (rowRequest q) ≤ 262144)
