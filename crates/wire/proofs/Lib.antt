@@ -6,3 +6,4 @@ pub mod Nodes
 pub mod Carried
 pub mod Reading
 pub mod Order
+pub mod Answered

@@ -3,3 +3,4 @@ pub mod Tags
 pub mod Grammar
 pub mod Sizes
 pub mod Reading
+pub mod Answered

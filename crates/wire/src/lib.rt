@@ -1,5 +1,6 @@
 // Reading the bytes of calls: what holds of it. Each statement is the contract of a small function, proved.
 ghost use Rattle.wire.specs.Reading.{ReadsBack, OneSpelling, StopsWhereItMust, ByteOrder};
+ghost use Rattle.wire.specs.Answered.{AnswersReadBack};
 
 // The bytes of a call are read as that call.
 pub fn reads_back() -> u8
@@ -25,6 +26,13 @@ pub fn stops_where_it_must() -> u8
 // The order of two values is that of their bytes.
 pub fn byte_order() -> u8
     ensures { λ _. ⌜ ByteOrder ⌝ }
+{
+    0
+}
+
+// The bytes of an answer are read as that answer.
+pub fn answers_read_back() -> u8
+    ensures { λ _. ⌜ AnswersReadBack ⌝ }
 {
     0
 }
