@@ -1,4 +1,6 @@
 // Answers, and how one is written as bytes into a lent slice.
+#![tactic(auto)]
+
 ghost use Rattle.std.specs.Prelude.{◌^◌, ◌<◌, ◌++◌, length};
 ghost use Rattle.spec.specs.Bytes.{encode_answer};
 ghost use Rattle.answer_places.specs.Code.{AnswerIn, answer_of};

@@ -1,4 +1,6 @@
 // Answers, written as bytes into a lent slice: whole ones here, and in pieces those that hold lists of ids.
+#![tactic(auto)]
+
 ghost use Rattle.std.specs.Prelude.{◌≡◌, true, [], ◌∷◌};
 ghost use Rattle.spec.specs.Calls.{refused, done, all_valid, not_valid, all_below};
 ghost use Rattle.spec.specs.Bytes.{decision_number, encode_answer};

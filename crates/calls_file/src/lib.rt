@@ -1,4 +1,6 @@
 // Where the calls of a file stand: for each call a number of eight bytes, its length, and then its bytes.
+#![tactic(auto)]
+
 ghost use Rattle.std.specs.Prelude.{◌≡◌, ℕ, ◌+◌, List, ◌++◌, length};
 ghost use Rattle.spec.specs.Bytes.{encode_text};
 ghost use Rattle.calls_file.specs.Frames.{next_of, Within};

@@ -1,5 +1,7 @@
 // Whether what a call carries is as it is kept: sets, records and ancestors in order, each element once, and nothing too large.
 // All of it is decided on the bytes of a call that was read before, so that what is refused is never copied.
+#![tactic(auto)]
+
 ghost use Rattle.std.specs.Prelude.{◌≡◌, ◌<◌, ◌≤◌, length, drop, Ok as ok};
 ghost use Rattle.spec.specs.Basics.{less};
 ghost use Rattle.spec.specs.Calls.{canonical, canonical_record, admissible};

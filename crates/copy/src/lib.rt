@@ -1,4 +1,6 @@
 // Copies what a call carries off its bytes into rows of numbers.
+#![tactic(auto)]
+
 ghost use Rattle.std.specs.Prelude.{◌≡◌, ◌+◌, length};
 ghost use Rattle.spec.specs.Calls.{set_schema, put_policy, put_entity, authorize};
 ghost use Rattle.wire.specs.Grammar.{decode};

@@ -1,4 +1,6 @@
 // The engine: from the bytes of a call to the bytes of its answer.
+#![tactic(auto)]
+
 ghost use Rattle.spec.specs.Bytes.{encode_answer};
 ghost use Rattle.wire.specs.Grammar.{decode};
 ghost use Rattle.answers.specs.Put.{Put};

@@ -1,4 +1,6 @@
 // Entities and requests as they stand in memory: looked up by name, and asked for what they have and what they are in.
+#![tactic(auto)]
+
 pub mod attributes;
 pub mod lookup;
 pub mod membership;

@@ -1,4 +1,6 @@
 // What expressions come to, on rows: exactly what the definitions say.
+#![tactic(auto)]
+
 pub mod apply;
 pub mod expressions;
 

@@ -1,4 +1,6 @@
 // Expressions as they stand in rows: what stands at a place, with the places of its parts.
+#![tactic(auto)]
+
 ghost use Rattle.std.specs.Prelude.{◌≡◌, ◌+◌, ◌^◌, ◌<◌, ◌≤◌, length};
 ghost use Rattle.values.specs.Held.{lowered};
 ghost use Rattle.exprs.specs.Heads.{var_at, op_at, head_at, Inside};

@@ -1,4 +1,6 @@
 // The theorems about the definitions: each is the contract of a small function, proved.
+#![tactic(auto)]
+
 ghost use Rattle.spec.specs.Promises.{AllowedJustIf, ForbidOverridesPermit, AllowedOnlyIfPermitted, DenyByDefault, OrderAndDuplicatesDontMatter, OneMorePolicy, ReasonsAndErrors, OnlyPoliciesAreNamed, StoreStaysOrdered, ArithmeticIsExact, FailsOutOfBounds, TypecheckingIsSound, ValidationIsSound, SubstitutionKeepsMeaning, LubIsLeast, RefusedChangesNothing, ValuesAreOrdered, EqualByCode};
 ghost use Rattle.laws.specs.Bridges.{InsertValue, InsertAttr, LikeByFuel, SameByParts};
 

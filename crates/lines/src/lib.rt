@@ -1,4 +1,6 @@
 // The line that is printed for an answer.
+#![tactic(auto)]
+
 ghost use Rattle.std.specs.Prelude.{◌≡◌, ℕ, ◌^◌, ◌<◌, length, string_bytes};
 ghost use Rattle.spec.specs.Basics.{Text};
 ghost use Rattle.spec.specs.Validate.{ValidationError};

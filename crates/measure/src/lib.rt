@@ -1,4 +1,6 @@
 // How long the row of what a call carries will be, by one pass along its bytes: nothing is copied.
+#![tactic(auto)]
+
 ghost use Rattle.std.specs.Prelude.{◌≡◌, ◌+◌, ◌^◌, ◌<◌, ◌≤◌, length, drop};
 ghost use Rattle.wire.specs.Read.{read_list};
 ghost use Rattle.wire.specs.Grammar.{read_field, read_fields, read_node, list as list_of, decode};

@@ -1,4 +1,6 @@
 // Policies as they stand in rows: what is read of them, whom they are about, and what they come to.
+#![tactic(auto)]
+
 pub mod reading;
 pub mod scopes;
 

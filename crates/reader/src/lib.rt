@@ -1,3 +1,5 @@
 // Reads calls off bytes.
+#![tactic(auto)]
+
 pub mod grammar;
 pub mod scan;

@@ -1,4 +1,6 @@
 // Trees as rows of numbers: how they stand in memory is defined in specs/; here is the theorem on how long rows are.
+#![tactic(auto)]
+
 ghost use Rattle.rows.specs.Rows.{RowsAreBounded, StoreFitsMemory};
 
 // A row has at most four numbers for each unit of size.

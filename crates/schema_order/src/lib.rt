@@ -1,4 +1,6 @@
 // Whether a schema is well-formed, told by the bytes of the call that sets it: nothing is copied, and names are looked up along the bytes.
+#![tactic(auto)]
+
 mod actions;
 mod entries;
 mod known;

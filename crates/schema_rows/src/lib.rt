@@ -1,4 +1,6 @@
 // Look-ups in a schema, as its rows lie in the store.
+#![tactic(auto)]
+
 pub mod lists;
 pub mod schemas;
 

@@ -1,4 +1,6 @@
 // Items that lie in memory one after the other in the order of their keys: where one is, and what moves as one comes or goes.
+#![tactic(auto)]
+
 pub mod finding;
 pub mod moving;
 

@@ -1,4 +1,6 @@
 // The definitions that the engine is proved against stand in specs/; the functions here say, as theorems, what they come to on the worked example.
+#![tactic(auto)]
+
 ghost use Rattle.spec.specs.TwoDeeds.{ValidationTable, RequestTable, PremisesCanBeMet};
 
 // Which of seven policies are validated, and why the others are not.

@@ -1,4 +1,6 @@
 // The store: rows of policies and entities in one lent memory, in the order of their keys, with what is kept of them.
+#![tactic(auto)]
+
 pub mod entities;
 pub mod layout;
 pub mod policies;

@@ -1,4 +1,6 @@
 // Types as they stand in memory: those of the schema by the places of their rows, those that are made on the way in work memory; and the least type above two.
+#![tactic(auto)]
+
 pub mod attributes;
 pub mod joining;
 pub mod matching;

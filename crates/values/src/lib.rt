@@ -1,4 +1,6 @@
 // Values as they stand in memory: their order, sets and records that are made on the way, and that stored rows are the values that they were made from.
+#![tactic(auto)]
+
 pub mod memory;
 pub mod nodes;
 pub mod ordering;

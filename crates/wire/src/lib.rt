@@ -1,4 +1,6 @@
 // Reading the bytes of calls: what holds of it. Each statement is the contract of a small function, proved.
+#![tactic(auto)]
+
 ghost use Rattle.wire.specs.Reading.{ReadsBack, OneSpelling, StopsWhereItMust, ByteOrder};
 ghost use Rattle.wire.specs.Answered.{AnswersReadBack};
 

@@ -1,4 +1,6 @@
 // Numbers of eight bytes, the greatest byte first, as files and answers hold them.
+#![tactic(auto)]
+
 ghost use Rattle.std.specs.Prelude.{◌≡◌, ℕ, ◌+◌, ◌^◌, ◌<◌, ◌≤◌, List, ◌++◌, length, drop, Some};
 ghost use Rattle.spec.specs.Bytes.{encode_word};
 ghost use Rattle.words.specs.Words.{big_endian, word_at};

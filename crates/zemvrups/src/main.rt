@@ -1,4 +1,6 @@
 // Answers the calls of a file, with a line for each: zemvrups CAPACITY FILE.
+#![tactic(auto)]
+
 ghost use Rattle.std.specs.Prelude.{◌≤◌, length, IfOk};
 
 mod faults;

@@ -72,7 +72,7 @@ field-returns-in-Node t c =
 pub field-returns-in-List : goal.field-returns-in-List
 field-returns-in-List t c =
     record {
-      reads = by-is (read_node c.args.height) c.args.bytes.now c.args.at _ _ _ c.in-List.is (by-items (read_node c.args.height) c.args.bytes.now c.args.at _ _ _ c.item-fields.ensures.is c.list.ensures.reads);
+      reads = by-is (read_node c.args.height) c.args.bytes.now c.args.at _ _ _ c.in-List.is (by-items (read_node c.args.height) c.args.bytes.now c.args.at _ _ _ c.item_fields.ensures.is c.list.ensures.reads);
       within = within-is _ _ c.args.at (length c.args.bytes.now) _ c.in-List.is c.list.ensures.within;
     }
 
@@ -112,12 +112,12 @@ pub fields-loop-f-preserved : goal.fields-loop-f-preserved
 fields-loop-f-preserved t c =
     let shape = c.args.shape.now in
     let i = c.loop-f.f-index in
-    let w = c.in-ok-part.ensures.within in (
+    let w = c.in_ok-part.ensures.within in (
       omega (arith, w),
       omega (arith, w),
       omega (arith, w, part-few (field_of (get_or shape i Part))),
       omega (arith, w, parts_at shape i Part c.loop-f-test.true, smalls-at shape i Part c.loop-f-test.true),
-      one_more shape i Part c.loop-f-test.true (read_node c.args.height) c.args.bytes.now c.loop-f.size c.loop-f.end _ c.loop-f.invariant.4 c.in-ok-part.part c.in-ok-part.ensures.reads,
+      one_more shape i Part c.loop-f-test.true (read_node c.args.height) c.args.bytes.now c.loop-f.size c.loop-f.end _ c.loop-f.invariant.4 c.in_ok-part.part c.in_ok-part.ensures.reads,
     )
 
 pub fields-returns : goal.fields-returns
@@ -160,11 +160,11 @@ list-returns-in-err-item t c =
 
 pub list-loop-end-preserved : goal.list-loop-end-preserved
 list-loop-end-preserved t c =
-    let h = c.in-ok-item.ensures in (
+    let h = c.in_ok-item.ensures in (
       omega (arith, h.within),
       omega (arith, h.within),
       omega (arith, h.within, c.requires.paid),
-      sym (Along.list-one-ok (read_fields (read_node c.args.height) (fields_of c.args.shape.now)) c.args.bytes.now c.loop-end.end (size_fields (fields_of c.args.shape.now)) c.loop-end-test.true c.if-mark-ne1.false c.in-ok-item.item h.reads h.within.1 c.loop-end.size)
+      sym (Along.list-one-ok (read_fields (read_node c.args.height) (fields_of c.args.shape.now)) c.args.bytes.now c.loop-end.end (size_fields (fields_of c.args.shape.now)) c.loop-end-test.true c.if-mark-ne1.false c.in_ok-item.item h.reads h.within.1 c.loop-end.size)
           ∙ c.loop-end.invariant.3,
     )
 
@@ -182,10 +182,10 @@ node-returns-then-height-eq0 t c = record { reads = node-low (kind_of c.args.kin
 
 pub node-returns : goal.node-returns
 node-returns t c =
-    let w = c.in-ok-opened.ensures.within in
+    let w = c.in_ok-opened.ensures.within in
     record {
-      reads = node-opened (kind_of c.args.kind) c.args.bytes.now c.args.at c.args.height c.in-ok-opened.opened _ (omega arith) c.in-ok-opened.ensures.reads c.fields.ensures.reads;
-      within = within_all _ _ c.args.at c.in-ok-opened.opened.start (length c.args.bytes.now) _ w.0 w.2 c.fields.ensures.within;
+      reads = node-opened (kind_of c.args.kind) c.args.bytes.now c.args.at c.args.height c.in_ok-opened.opened _ (omega arith) c.in_ok-opened.ensures.reads c.fields.ensures.reads;
+      within = within_all _ _ c.args.at c.in_ok-opened.opened.start (length c.args.bytes.now) _ w.0 w.2 c.fields.ensures.within;
     }
 
 pub node-returns-in-err-opened : goal.node-returns-in-err-opened

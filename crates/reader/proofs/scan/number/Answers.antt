@@ -4,7 +4,7 @@ use Rattle.reader.proofs.Along.{word_ok, taken-err}
 use Rattle.reader.proofs.scan.number.Goals as goal
 
 pub returns : goal.returns
-returns c = record { reads = rw (word_ok c.args.at _ _ c.in-ok--n.ensures.reads); within = omega (arith, c.in-ok--n.ensures.within) }
+returns c = record { reads = rw (word_ok c.args.at _ _ c.in_ok-_n.ensures.reads); within = omega (arith, c.in_ok-_n.ensures.within) }
 
 pub returns-in-err--n : goal.returns-in-err--n
 returns-in-err--n c =

@@ -27,9 +27,9 @@ returns-in-err-long c =
 
 pub loop-i-init : goal.loop-i-init
 loop-i-init c = (
-  omega (arith, c.in-ok-long.ensures.within),
-  same_left c.args.bytes.now 1 1 (c.in-ok-long.long - 0) c.in-ok-long.long (c.args.at + 8 + 0) (c.args.at + 8) (omega arith) (omega arith) (omega arith)
-      ∙ pattern-behind c.args.bytes.now c.args.at c.in-ok-long.long c.in-ok-long.ensures.reads,
+  omega (arith, c.in_ok-long.ensures.within),
+  same_left c.args.bytes.now 1 1 (c.in_ok-long.long - 0) c.in_ok-long.long (c.args.at + 8 + 0) (c.args.at + 8) (omega arith) (omega arith) (omega arith)
+      ∙ pattern-behind c.args.bytes.now c.args.at c.in_ok-long.long c.in_ok-long.ensures.reads,
 )
 
 pub returns-then-place-bytes : goal.returns-then-place-bytes
@@ -45,12 +45,12 @@ returns-then-place-bytes-2 c =
 pub returns-then-bytes-place-gt256 : goal.returns-then-bytes-place-gt256
 returns-then-bytes-place-gt256 c =
     record {
-      reads = elements-low c.args.bytes.now _ _ _ (omega arith) c.if-place-bytes-2.false c.if-bytes-place-gt1.false c.if-bytes-place-gt256.true (omega (arith, c.type-inv.bytes (c.args.at + 8 + 2 * c.loop-i.i + 1))) ∙ c.loop-i.invariant.1;
+      reads = elements-low c.args.bytes.now _ _ _ (omega arith) c.if-place-bytes-2.false c.if-bytes-place-gt1.false c.if-bytes-place-gt256.true (omega (arith, c.ok.bytes (c.args.at + 8 + 2 * c.loop-i.i + 1))) ∙ c.loop-i.invariant.1;
       within = omega arith;
     }
 
 pub loop-i-preserved : goal.loop-i-preserved
 loop-i-preserved c = (
   omega arith,
-  one_more c.args.bytes.now (c.args.at + 8) c.in-ok-long.long c.loop-i.i _ c.loop-i.invariant.1 c.loop-i-test.true c.if-place-bytes-2.false c.if-bytes-place-gt1.false c.if-bytes-place-gt256.false,
+  one_more c.args.bytes.now (c.args.at + 8) c.in_ok-long.long c.loop-i.i _ c.loop-i.invariant.1 c.loop-i-test.true c.if-place-bytes-2.false c.if-bytes-place-gt1.false c.if-bytes-place-gt256.false,
 )

@@ -10,10 +10,10 @@ pub returns-then-tag-table : goal.returns-then-tag-table
 returns-then-tag-table c = no_call c.args.bytes.now (omega arith) c.calls-table.result.now c.calls-table.ensures c.if-tag-table.true
 
 pub returns-then-f-bytes : goal.returns-then-f-bytes
-returns-then-f-bytes c = call-behind c.args.bytes.now (omega arith) c.calls-table.result.now c.calls-table.ensures _ c.if-tag-table.false c.in-ok-f.f c.in-ok-f.ensures.reads c.if-f-bytes.true
+returns-then-f-bytes c = call-behind c.args.bytes.now (omega arith) c.calls-table.result.now c.calls-table.ensures _ c.if-tag-table.false c.in_ok-f.f c.in_ok-f.ensures.reads c.if-f-bytes.true
 
 pub returns : goal.returns
-returns c = call_ok c.args.bytes.now (omega arith) c.calls-table.result.now c.calls-table.ensures _ c.if-tag-table.false c.in-ok-f.f c.in-ok-f.ensures.reads c.if-f-bytes.false
+returns c = call_ok c.args.bytes.now (omega arith) c.calls-table.result.now c.calls-table.ensures _ c.if-tag-table.false c.in_ok-f.f c.in_ok-f.ensures.reads c.if-f-bytes.false
 
 pub returns-in-err-f : goal.returns-in-err-f
 returns-in-err-f c =

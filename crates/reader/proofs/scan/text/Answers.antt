@@ -9,7 +9,7 @@ returns-in-err-long c =
     rw (p.1, p.2) record { reads = text-no-word c.args.bytes.now c.args.at _ c.in-err-long.ensures.reads; within = c.in-err-long.ensures.within }
 
 pub returns-then-bytes-start : goal.returns-then-bytes-start
-returns-then-bytes-start c = record { reads = text-cut c.args.bytes.now c.args.at _ c.in-ok-long.ensures.reads c.in-ok-long.ensures.within c.if-bytes-start.true; within = omega arith }
+returns-then-bytes-start c = record { reads = text-cut c.args.bytes.now c.args.at _ c.in_ok-long.ensures.reads c.in_ok-long.ensures.within c.if-bytes-start.true; within = omega arith }
 
 pub returns : goal.returns
-returns c = record { reads = text-whole c.args.bytes.now c.args.at _ c.in-ok-long.ensures.reads c.if-bytes-start.false; within = omega (arith, c.in-ok-long.ensures.within) }
+returns c = record { reads = text-whole c.args.bytes.now c.args.at _ c.in_ok-long.ensures.reads c.if-bytes-start.false; within = omega (arith, c.in_ok-long.ensures.within) }
