@@ -100,12 +100,12 @@ module _ (shape : List CodeField) (i : ℕ) (d : CodeField) (h : i < length shap
     stops_at : (k : ℕ) → Err k ≡ one r bs e (field_of (get_or shape i d)) → Err k ≡ all
     stops_at k g = left-err r bs m e (get_or shape i d) (drop (i + 1) shape) k g ∙ ap (λ fs. left r bs m fs e) (sym (drop_more shape i d h)) ∙ is
 
-pub fields-returns-in-err-part : goal.fields-returns-in-err-part
-fields-returns-in-err-part t c =
-    let p = err_from_is_err_and c.from-residual.result c.from-residual.ensures.1 in
+pub fields-returns-in_err-part : goal.fields-returns-in_err-part
+fields-returns-in_err-part t c =
+    let p = err_from_is_err_and c.from_residual.result c.from_residual.ensures.1 in
     rw (p.1, p.2) record {
-      reads = stops_at c.args.shape.now c.loop-f.f-index _ c.loop-f-test.true (read_node c.args.height) c.args.bytes.now c.loop-f.size c.loop-f.end _ c.loop-f.invariant.4 _ c.in-err-part.ensures.reads;
-      within = c.in-err-part.ensures.within;
+      reads = stops_at c.args.shape.now c.loop-f.f-index _ c.loop-f-test.true (read_node c.args.height) c.args.bytes.now c.loop-f.size c.loop-f.end _ c.loop-f.invariant.4 _ c.in_err-part.ensures.reads;
+      within = c.in_err-part.ensures.within;
     }
 
 pub fields-loop-f-preserved : goal.fields-loop-f-preserved
@@ -149,13 +149,13 @@ list-returns-then-mark-ne1 t c =
       within = omega arith;
     }
 
-pub list-returns-in-err-item : goal.list-returns-in-err-item
-list-returns-in-err-item t c =
-    let p = err_from_is_err_and c.from-residual.result c.from-residual.ensures.1 in
+pub list-returns-in_err-item : goal.list-returns-in_err-item
+list-returns-in_err-item t c =
+    let p = err_from_is_err_and c.from_residual.result c.from_residual.ensures.1 in
     rw (p.1, p.2) record {
-      reads = Along.list-one-err (read_fields (read_node c.args.height) (fields_of c.args.shape.now)) c.args.bytes.now c.loop-end.end (size_fields (fields_of c.args.shape.now)) _ c.loop-end-test.true c.if-mark-ne1.false _ c.in-err-item.ensures.reads
+      reads = Along.list-one-err (read_fields (read_node c.args.height) (fields_of c.args.shape.now)) c.args.bytes.now c.loop-end.end (size_fields (fields_of c.args.shape.now)) _ c.loop-end-test.true c.if-mark-ne1.false _ c.in_err-item.ensures.reads
           ∙ c.loop-end.invariant.3;
-      within = c.in-err-item.ensures.within;
+      within = c.in_err-item.ensures.within;
     }
 
 pub list-loop-end-preserved : goal.list-loop-end-preserved
@@ -188,8 +188,8 @@ node-returns t c =
       within = within_all _ _ c.args.at c.in_ok-opened.opened.start (length c.args.bytes.now) _ w.0 w.2 c.fields.ensures.within;
     }
 
-pub node-returns-in-err-opened : goal.node-returns-in-err-opened
-node-returns-in-err-opened t c =
-    let p = err_from_is_err_and c.from-residual.result c.from-residual.ensures.1 in
-    let o = c.in-err-opened.ensures.reads in
-    rw (p.1, p.2) record { reads = node-err (kind_of c.args.kind) c.args.bytes.now c.args.at o.0 c.args.height _ (omega arith) o.1 o.2; within = c.in-err-opened.ensures.within }
+pub node-returns-in_err-opened : goal.node-returns-in_err-opened
+node-returns-in_err-opened t c =
+    let p = err_from_is_err_and c.from_residual.result c.from_residual.ensures.1 in
+    let o = c.in_err-opened.ensures.reads in
+    rw (p.1, p.2) record { reads = node-err (kind_of c.args.kind) c.args.bytes.now c.args.at o.0 c.args.height _ (omega arith) o.1 o.2; within = c.in_err-opened.ensures.within }

@@ -6,7 +6,7 @@ use Rattle.reader.proofs.scan.number.Goals as goal
 pub returns : goal.returns
 returns c = record { reads = rw (word_ok c.args.at _ _ c.in_ok-_n.ensures.reads); within = omega (arith, c.in_ok-_n.ensures.within) }
 
-pub returns-in-err--n : goal.returns-in-err--n
-returns-in-err--n c =
-    let p = err_from_is_err_and c.from-residual.result c.from-residual.ensures.1 in
-    rw (p.1, p.2) record { reads = taken-err _ c.args.at _ _ c.in-err--n.ensures.reads; within = c.in-err--n.ensures.within }
+pub returns-in_err-_n : goal.returns-in_err-_n
+returns-in_err-_n c =
+    let p = err_from_is_err_and c.from_residual.result c.from_residual.ensures.1 in
+    rw (p.1, p.2) record { reads = taken-err _ c.args.at _ _ c.in_err-_n.ensures.reads; within = c.in_err-_n.ensures.within }

@@ -20,10 +20,10 @@ module _ (bs : Bytes) (s n i : ℕ) (all : Result Found ℕ) (is : left bs (1 + 
       same_left bs (1 + (i + 1)) (1 + i + 1) (n - (i + 1)) (n - i - 1) (s + 2 * (i + 1)) (s + 2 * i + 2) (omega arith) (omega arith) (omega arith)
       ∙ sym (elements-more bs (s + 2 * i) (n - i) (1 + i) (omega arith) h a b) ∙ is
 
-pub returns-in-err-long : goal.returns-in-err-long
-returns-in-err-long c =
-    let p = err_from_is_err_and c.from-residual.result c.from-residual.ensures.1 in
-    rw (p.1, p.2) record { reads = pattern-no-word c.args.bytes.now c.args.at _ c.in-err-long.ensures.reads; within = c.in-err-long.ensures.within }
+pub returns-in_err-long : goal.returns-in_err-long
+returns-in_err-long c =
+    let p = err_from_is_err_and c.from_residual.result c.from_residual.ensures.1 in
+    rw (p.1, p.2) record { reads = pattern-no-word c.args.bytes.now c.args.at _ c.in_err-long.ensures.reads; within = c.in_err-long.ensures.within }
 
 pub loop-i-init : goal.loop-i-init
 loop-i-init c = (
@@ -45,7 +45,7 @@ returns-then-place-bytes-2 c =
 pub returns-then-bytes-place-gt256 : goal.returns-then-bytes-place-gt256
 returns-then-bytes-place-gt256 c =
     record {
-      reads = elements-low c.args.bytes.now _ _ _ (omega arith) c.if-place-bytes-2.false c.if-bytes-place-gt1.false c.if-bytes-place-gt256.true (omega (arith, c.ok.bytes (c.args.at + 8 + 2 * c.loop-i.i + 1))) ∙ c.loop-i.invariant.1;
+      reads = elements-low c.args.bytes.now _ _ _ (omega arith) c.if-place-bytes-2.false c.if-bytes-place-gt1.false c.if-bytes-place-gt256.true (omega (arith, c.type_inv.bytes (c.args.at + 8 + 2 * c.loop-i.i + 1))) ∙ c.loop-i.invariant.1;
       within = omega arith;
     }
 

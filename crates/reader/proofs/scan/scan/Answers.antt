@@ -15,7 +15,7 @@ returns-then-f-bytes c = call-behind c.args.bytes.now (omega arith) c.calls-tabl
 pub returns : goal.returns
 returns c = call_ok c.args.bytes.now (omega arith) c.calls-table.result.now c.calls-table.ensures _ c.if-tag-table.false c.in_ok-f.f c.in_ok-f.ensures.reads c.if-f-bytes.false
 
-pub returns-in-err-f : goal.returns-in-err-f
-returns-in-err-f c =
-    let p = err_from_is_err_and c.from-residual.result c.from-residual.ensures.1 in
-    rw (p.1, p.2) (call-err c.args.bytes.now (omega arith) c.calls-table.result.now c.calls-table.ensures _ c.if-tag-table.false _ c.in-err-f.ensures.reads)
+pub returns-in_err-f : goal.returns-in_err-f
+returns-in_err-f c =
+    let p = err_from_is_err_and c.from_residual.result c.from_residual.ensures.1 in
+    rw (p.1, p.2) (call-err c.args.bytes.now (omega arith) c.calls-table.result.now c.calls-table.ensures _ c.if-tag-table.false _ c.in_err-f.ensures.reads)

@@ -11,5 +11,5 @@ returns-then-at-store c = search (rules, get_or_append_left)
 pub returns-else-at-store : goal.returns-else-at-store
 returns-else-at-store c = search (rules, get_or-append_right)
 
-pub offset-bounds-work-at : goal.offset-bounds-work-at
-offset-bounds-work-at c = let l = length-append c.args.store.now c.args.work.now in search rules
+pub offset_bounds-work-at : goal.offset_bounds-work-at
+offset_bounds-work-at c = let l = length-append c.args.store.now c.args.work.now in search rules

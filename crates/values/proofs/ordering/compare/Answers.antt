@@ -6,4 +6,4 @@ use Rattle.values.proofs.ordering.compare.Goals as goal
 pub returns : goal.returns
 returns c =
     let m : List ℕ = c.args.store.now ++ c.args.work.now in
-    c.compare-in.ensures ∙ order_is (decode c.args.height m c.args.v) (decode c.args.height m c.args.w)
+    c.compare_in.ensures ∙ order_is (decode c.args.height m c.args.v) (decode c.args.height m c.args.w)

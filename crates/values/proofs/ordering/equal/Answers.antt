@@ -7,4 +7,4 @@ use Rattle.values.proofs.ordering.equal.Goals as goal
 pub returns : goal.returns
 returns c =
     let m : List ℕ = c.args.store.now ++ c.args.work.now in
-    c.is-same.ensures ∙ ap is_same c.compare-in.ensures ∙ sym (same-is (decode c.args.height m c.args.v) (decode c.args.height m c.args.w))
+    c.is_same.ensures ∙ ap is_same c.compare_in.ensures ∙ sym (same-is (decode c.args.height m c.args.v) (decode c.args.height m c.args.w))

@@ -7,13 +7,13 @@ use Rattle.values.proofs.Runs.{lies_in}
 use Rattle.values.proofs.Finds.{find-there, find-new}
 use Rattle.values.proofs.records.attribute.Goals as goal
 
-pub seek-name-requires : goal.seek-name-requires
-seek-name-requires c =
+pub seek_name-requires : goal.seek_name-requires
+seek_name-requires c =
     let m : List ℕ = c.args.store.now ++ c.args.work.now in
     record { small = c.requires.small; whole = record-in m c.args.height c.args.p c.requires.whole; text = c.requires.text }
 
-pub attr-of-requires : goal.attr-of-requires
-attr-of-requires c =
+pub attr_of-requires : goal.attr_of-requires
+attr_of-requires c =
     let m : List ℕ = c.args.store.now ++ c.args.work.now in
     let g = record-in m c.args.height c.args.p c.requires.whole in
     let l = c.in-There.ensures.0 in
@@ -26,8 +26,8 @@ returns-in-There c =
     let g = record-in m c.args.height c.args.p c.requires.whole in (
       sym (ap (λ v. lookup t (fields_of v)) (record_is m c.args.height c.args.p c.requires.whole))
           ∙ find-there (λ j. text_at m (name_at m c.args.p j)) (λ j. decode c.args.height m (attr_at m c.args.p j)) t (count m c.args.p) c.in-There.k c.in-There.ensures
-          ∙ ap (λ v. some (decode c.args.height m v)) (sym c.attr-of.ensures),
-      subst (Good c.args.height m) (sym c.attr-of.ensures) (g.each c.in-There.k c.in-There.ensures.0),
+          ∙ ap (λ v. some (decode c.args.height m v)) (sym c.attr_of.ensures),
+      subst (Good c.args.height m) (sym c.attr_of.ensures) (g.each c.in-There.k c.in-There.ensures.0),
     )
 
 pub returns-in-New : goal.returns-in-New

@@ -10,5 +10,5 @@ returns-in-There c =
 
 pub returns-in-New : goal.returns-in-New
 returns-in-New c =
-    attribute-new c.args.height c.args.store.now c.args.work.now c.open-three.new.work c.args.a c.args.top c.in-New.k c.args.key c.tag-in-New.result c.load-in-New.result c.args.v
-    c.requires.made c.requires.text c.requires.good (ap (λ x. value_of 0 x c.load-in-New.result) c.tag-in-New.ensures ∙ c.load-in-New.ensures) c.in-New.ensures c.open-three.ensures c.open-three.auto.work c.requires.room
+    attribute-new c.args.height c.args.store.now c.args.work.now c.open_three.new.work c.args.a c.args.top c.in-New.k c.args.key c.tag-in-New.result c.load-in-New.result c.args.v
+    c.requires.made c.requires.text c.requires.good (ap (λ x. value_of 0 x c.load-in-New.result) c.tag-in-New.ensures ∙ c.load-in-New.ensures) c.in-New.ensures c.open_three.ensures c.open_three.auto.work c.requires.room

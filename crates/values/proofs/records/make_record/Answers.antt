@@ -5,10 +5,10 @@ use Rattle.values.proofs.records.make_record.Goals as goal
 
 pub returns : goal.returns
 returns c = record {
-  rises = omega (arith, c.gather-attrs.ensures.made.ends);
-  few = c.gather-attrs.ensures.few;
-  keeps = c.gather-attrs.ensures.keeps;
-  beyond = c.gather-attrs.ensures.beyond;
-  is = record-stands c.args.height c.args.store.now c.gather-attrs.new.work c.args.top.now c.gather-attrs.result (waiting_attrs c.args.height (up_to c.args.store.now c.args.work.now c.args.top.now) c.args.work.now c.args.from c.args.n)
-      c.gather-attrs.ensures.made c.gather-attrs.ensures.holds;
+  rises = omega (arith, c.gather_attrs.ensures.made.ends);
+  few = c.gather_attrs.ensures.few;
+  keeps = c.gather_attrs.ensures.keeps;
+  beyond = c.gather_attrs.ensures.beyond;
+  is = record-stands c.args.height c.args.store.now c.gather_attrs.new.work c.args.top.now c.gather_attrs.result (waiting_attrs c.args.height (up_to c.args.store.now c.args.work.now c.args.top.now) c.args.work.now c.args.from c.args.n)
+      c.gather_attrs.ensures.made c.gather_attrs.ensures.holds;
 }

@@ -9,8 +9,8 @@ use Rattle.values.proofs.Runs.{lies_in}
 use Rattle.values.proofs.Finds.{any_step, any-all, any_none}
 use Rattle.values.proofs.sets.contains_any.Goals as goal
 
-pub overflow-add-p : goal.overflow-add-p
-overflow-add-p c =
+pub overflow_add-p : goal.overflow_add-p
+overflow_add-p c =
     let m : List ℕ = c.args.store.now ++ c.args.work.now in
     let f = (set-in m c.args.height c.args.p c.requires.whole).fits in
     omega (arith, f, c.requires.small)
@@ -27,8 +27,8 @@ loop-i-init c =
     any-all (λ x. is_in x ws) (λ j. decode c.args.height m (element_at m c.args.p j)) (count m c.args.p)
     ∙ ap (λ v. any (λ x. is_in x ws) (elements_of v)) (set_is m c.args.height c.args.p c.requires.whole)
 
-pub element-of-w-requires : goal.element-of-w-requires
-element-of-w-requires c =
+pub element_of-w-requires : goal.element_of-w-requires
+element_of-w-requires c =
     let m : List ℕ = c.args.store.now ++ c.args.work.now in
     let g = set-in m c.args.height c.args.p c.requires.whole in
     let l : c.loop-i.i < count m c.args.p = omega (arith, c.word-n.ensures) in
@@ -41,7 +41,7 @@ contains-requires c =
     record {
       small = c.requires.small;
       whole = c.requires.other;
-      value = subst (Good c.args.height m) (sym c.element-of-w.ensures) ((set-in m c.args.height c.args.p c.requires.whole).each c.loop-i.i l);
+      value = subst (Good c.args.height m) (sym c.element_of-w.ensures) ((set-in m c.args.height c.args.p c.requires.whole).each c.loop-i.i l);
     }
 
 pub returns-then-contains : goal.returns-then-contains
@@ -49,7 +49,7 @@ returns-then-contains c =
     let m : List ℕ = c.args.store.now ++ c.args.work.now in
     let f : ℕ → s.Value = λ j. decode c.args.height m (element_at m c.args.p j) in
     let ws : List s.Value = elements_of (decode c.args.height m (Set c.args.q)) in
-    let e : true ≡ is_in (f c.loop-i.i) ws = c.if-contains.ensures ∙ ap (λ w. is_in (decode c.args.height m w) ws) c.element-of-w.ensures in
+    let e : true ≡ is_in (f c.loop-i.i) ws = c.if-contains.ensures ∙ ap (λ w. is_in (decode c.args.height m w) ws) c.element_of-w.ensures in
     sym (any_step (λ x. is_in x ws) f (count m c.args.p) c.loop-i.i true (omega (arith, c.word-n.ensures)) e) ∙ c.loop-i.invariant
 
 pub loop-i-preserved : goal.loop-i-preserved
@@ -57,7 +57,7 @@ loop-i-preserved c =
     let m : List ℕ = c.args.store.now ++ c.args.work.now in
     let f : ℕ → s.Value = λ j. decode c.args.height m (element_at m c.args.p j) in
     let ws : List s.Value = elements_of (decode c.args.height m (Set c.args.q)) in
-    let e : false ≡ is_in (f c.loop-i.i) ws = c.if-contains.ensures ∙ ap (λ w. is_in (decode c.args.height m w) ws) c.element-of-w.ensures in
+    let e : false ≡ is_in (f c.loop-i.i) ws = c.if-contains.ensures ∙ ap (λ w. is_in (decode c.args.height m w) ws) c.element_of-w.ensures in
     sym (any_step (λ x. is_in x ws) f (count m c.args.p) c.loop-i.i false (omega (arith, c.word-n.ensures)) e) ∙ c.loop-i.invariant
 
 pub returns : goal.returns

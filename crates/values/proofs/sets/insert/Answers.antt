@@ -8,5 +8,5 @@ returns-in-There c = inserted-there c.args.height c.args.store.now c.args.work.n
 
 pub returns : goal.returns
 returns c =
-    inserted c.args.height c.args.store.now c.args.work.now c.open-pair.new.work c.args.a c.args.top c.in-New.k c.tag.result c.load.result c.args.v
-    c.requires.made c.requires.good (ap (λ x. value_of 0 x c.load.result) c.tag.ensures ∙ c.load.ensures) c.in-New.ensures c.open-pair.ensures c.open-pair.auto.work c.requires.room
+    inserted c.args.height c.args.store.now c.args.work.now c.open_pair.new.work c.args.a c.args.top c.in-New.k c.tag.result c.load.result c.args.v
+    c.requires.made c.requires.good (ap (λ x. value_of 0 x c.load.result) c.tag.ensures ∙ c.load.ensures) c.in-New.ensures c.open_pair.ensures c.open_pair.auto.work c.requires.room

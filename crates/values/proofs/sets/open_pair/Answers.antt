@@ -5,5 +5,5 @@ use Rattle.values.proofs.sets.open_pair.Goals as goal
 
 pub returns : goal.returns
 returns c =
-    subst (λ p. Opened c.args.work.now (set (set p c.args.at c.args.x) (c.args.at + 1) c.args.y) c.args.at c.args.top c.args.x c.args.y) (sym c.copy-within.ensures.after)
+    subst (λ p. Opened c.args.work.now (set (set p c.args.at c.args.x) (c.args.at + 1) c.args.y) c.args.at c.args.top c.args.x c.args.y) (sym c.copy_within.ensures.after)
     (opened c.args.work.now c.args.at c.args.top c.args.x c.args.y c.requires.fits c.requires.room)

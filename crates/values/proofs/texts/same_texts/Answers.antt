@@ -7,4 +7,4 @@ use Rattle.values.proofs.texts.same_texts.Goals as goal
 pub returns : goal.returns
 returns c =
     let m : List ℕ = c.args.store.now ++ c.args.work.now in
-    c.is-same.ensures ∙ ap is_same c.compare-texts.ensures ∙ sym (same-text-is (text_at m c.args.p) (text_at m c.args.q))
+    c.is_same.ensures ∙ ap is_same c.compare_texts.ensures ∙ sym (same-text-is (text_at m c.args.p) (text_at m c.args.q))

@@ -7,4 +7,4 @@ use Rattle.values.proofs.texts.same_uids.Goals as goal
 pub returns : goal.returns
 returns c =
     let m : List ℕ = c.args.store.now ++ c.args.work.now in
-    c.is-same.ensures ∙ ap is_same c.compare-uids.ensures ∙ sym (same-uid-is (uid_at m c.args.p) (uid_at m c.args.q))
+    c.is_same.ensures ∙ ap is_same c.compare_uids.ensures ∙ sym (same-uid-is (uid_at m c.args.p) (uid_at m c.args.q))
