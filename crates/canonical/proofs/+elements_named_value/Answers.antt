@@ -23,7 +23,7 @@ element bs h end v s l is x n q =
 
 pub elements-loop-end-init : goal.elements-loop-end-init
 elements-loop-end-init t c =
-    let s : Small c.args.bytes.now = λ i. omega (arith, c.type-inv.bytes i) in (
+    let s : Small c.args.bytes.now = λ i. omega (arith, c.type_inv.bytes i) in (
       omega arith,
       c.requires.0,
       tt,
@@ -42,7 +42,7 @@ elements-value-v-requires t c =
 
 pub elements-loop-end-preserved : goal.elements-loop-end-preserved
 elements-loop-end-preserved t c =
-    let s : Small c.args.bytes.now = λ i. omega (arith, c.type-inv.bytes i) in
+    let s : Small c.args.bytes.now = λ i. omega (arith, c.type_inv.bytes i) in
     let i = c.loop-end.invariant in
     let v = c.value-v.result in
     let h = c.value-v.ensures.within in
@@ -128,8 +128,8 @@ named-returns t c =
 pub value-bounds-bytes-at : goal.value-bounds-bytes-at
 value-bounds-bytes-at t c = Parts.value-inside c.args.bytes.now c.args.at c.args.height c.requires.1
 
-pub value-overflow-sub-height : goal.value-overflow-sub-height
-value-overflow-sub-height t c = omega (arith, (Parts.set_is c.args.bytes.now c.args.at c.args.height c.requires.1 c.if-tag-eq-SET.true).0)
+pub value-overflow_sub-height : goal.value-overflow_sub-height
+value-overflow_sub-height t c = omega (arith, (Parts.set_is c.args.bytes.now c.args.at c.args.height c.requires.1 c.if-tag-eq-SET.true).0)
 
 pub value-elements-requires : goal.value-elements-requires
 value-elements-requires t c =
@@ -143,8 +143,8 @@ value-returns-then-tag-eq-SET t c =
     let h = c.elements.ensures.within in
     record { is = c.elements.ensures.is ∙ Parts.judged-turn canonical (λ vs. set (to_values vs)) c.args.at 1 (c.args.at + 1) _ _ refl w.1; within = (omega (arith, h.0), h.1) }
 
-pub value-overflow-sub-height-then-tag-eq-RECORD : goal.value-overflow-sub-height-then-tag-eq-RECORD
-value-overflow-sub-height-then-tag-eq-RECORD t c = omega (arith, (Parts.inner-record-is c.args.bytes.now c.args.at c.args.height c.requires.1 c.if-tag-eq-RECORD.true).0)
+pub value-overflow_sub-height-then-tag-eq-RECORD : goal.value-overflow_sub-height-then-tag-eq-RECORD
+value-overflow_sub-height-then-tag-eq-RECORD t c = omega (arith, (Parts.inner-record-is c.args.bytes.now c.args.at c.args.height c.requires.1 c.if-tag-eq-RECORD.true).0)
 
 pub value-named-requires : goal.value-named-requires
 value-named-requires t c =
@@ -160,8 +160,8 @@ value-returns-then-tag-eq-RECORD t c =
 
 pub value-returns : goal.value-returns
 value-returns t c =
-    let s : Small c.args.bytes.now = λ i. omega (arith, c.type-inv.bytes i) in
+    let s : Small c.args.bytes.now = λ i. omega (arith, c.type_inv.bytes i) in
     record {
-      is = Parts.leaf-judged c.args.bytes.now c.args.at c.args.height c.end-of.result s c.requires.1 c.if-tag-eq-SET.false c.if-tag-eq-RECORD.false c.end-of.ensures.is;
-      within = c.end-of.ensures.within;
+      is = Parts.leaf-judged c.args.bytes.now c.args.at c.args.height c.end_of.result s c.requires.1 c.if-tag-eq-SET.false c.if-tag-eq-RECORD.false c.end_of.ensures.is;
+      within = c.end_of.ensures.within;
     }

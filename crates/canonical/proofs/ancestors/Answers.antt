@@ -18,7 +18,7 @@ ancestor bs h end e s l is x n q =
 
 pub loop-end-init : goal.loop-end-init
 loop-end-init c =
-    let s : Small c.args.bytes.now = λ i. omega (arith, c.type-inv.bytes i) in (
+    let s : Small c.args.bytes.now = λ i. omega (arith, c.type_inv.bytes i) in (
       omega arith,
       c.requires.0,
       tt,
@@ -29,21 +29,21 @@ loop-end-init c =
 pub bounds-bytes-end : goal.bounds-bytes-end
 bounds-bytes-end c = Lists.list_inside (read_node c.args.height uid) c.args.bytes.now c.loop-end.end c.loop-end.invariant.3
 
-pub end-of-requires : goal.end-of-requires
-end-of-requires c =
+pub end_of-requires : goal.end_of-requires
+end_of-requires c =
     let in' = Lists.list_inside (read_node c.args.height uid) c.args.bytes.now c.loop-end.end c.loop-end.invariant.3 in
     let w = Lists.list-more (read_node c.args.height uid) c.args.bytes.now c.loop-end.end c.loop-end.invariant.3 c.loop-end-test.true in
     (omega (arith, in'), Lists.is-got _ w.0 w.1 w.4)
 
 pub loop-end-preserved : goal.loop-end-preserved
 loop-end-preserved c =
-    let s : Small c.args.bytes.now = λ i. omega (arith, c.type-inv.bytes i) in
+    let s : Small c.args.bytes.now = λ i. omega (arith, c.type_inv.bytes i) in
     let i = c.loop-end.invariant in
-    let e = c.end-of.result in
-    let h = c.end-of.ensures.within in
+    let e = c.end_of.result in
+    let h = c.end_of.ensures.within in
     let up = c.behind-up.result in
     let w = Lists.step (read_node c.args.height uid) encode_uid (λ _. true) c.args.bytes.now c.loop-end.end c.loop-end.last c.loop-end.ok up true (record { from = c.loop-end.end + 1; to = e }) e i.3 c.loop-end-test.true
-    (ancestor c.args.bytes.now c.args.height c.loop-end.end e s c.requires.1.0 c.end-of.ensures.is) c.behind-up.ensures _ i.4 in (
+    (ancestor c.args.bytes.now c.args.height c.loop-end.end e s c.requires.1.0 c.end_of.ensures.is) c.behind-up.ensures _ i.4 in (
       omega (arith, i.0, h.0),
       h.1,
       (h.0, h.1),

@@ -51,20 +51,20 @@ module _ (bs : Bytes) (h : Got (read_node 66 request (drop 1 bs))) where
         pub says : (d : Checked) → d ≡ judged canonical_record c (read_node 65 attrs (drop c bs)) → d.ok ≡ (judged (λ q. canonical_record q.context) 1 (read_node 66 request (drop 1 bs))).ok
         says d is-d = (judged-got canonical_record c d _ _ _ is-d context-at).1 ∙ sym (ap (λ R. (judged (λ q. canonical_record q.context) 1 R).ok) is_one)
 
-pub end-of-action-requires : goal.end-of-action-requires
-end-of-action-requires c = (c.requires.0, has-principal c.args.bytes.now c.requires.1)
+pub end_of-action-requires : goal.end_of-action-requires
+end_of-action-requires c = (c.requires.0, has-principal c.args.bytes.now c.requires.1)
 
-pub end-of-resource-requires : goal.end-of-resource-requires
-end-of-resource-requires c = (c.end-of-action.ensures.within.1, has-action c.args.bytes.now c.requires.1 c.end-of-action.result c.end-of-action.ensures.is)
+pub end_of-resource-requires : goal.end_of-resource-requires
+end_of-resource-requires c = (c.end_of-action.ensures.within.1, has-action c.args.bytes.now c.requires.1 c.end_of-action.result c.end_of-action.ensures.is)
 
-pub end-of-context-requires : goal.end-of-context-requires
-end-of-context-requires c =
-    (c.end-of-resource.ensures.within.1, has-resource c.args.bytes.now c.requires.1 c.end-of-action.result c.end-of-action.ensures.is c.end-of-resource.result c.end-of-resource.ensures.is)
+pub end_of-context-requires : goal.end_of-context-requires
+end_of-context-requires c =
+    (c.end_of-resource.ensures.within.1, has-resource c.args.bytes.now c.requires.1 c.end_of-action.result c.end_of-action.ensures.is c.end_of-resource.result c.end_of-resource.ensures.is)
 
 pub record-requires : goal.record-requires
 record-requires c =
-    (c.end-of-context.ensures.within.1, has-context c.args.bytes.now c.requires.1 c.end-of-action.result c.end-of-action.ensures.is c.end-of-resource.result c.end-of-resource.ensures.is c.end-of-context.result c.end-of-context.ensures.is)
+    (c.end_of-context.ensures.within.1, has-context c.args.bytes.now c.requires.1 c.end_of-action.result c.end_of-action.ensures.is c.end_of-resource.result c.end_of-resource.ensures.is c.end_of-context.result c.end_of-context.ensures.is)
 
 pub returns : goal.returns
 returns c =
-    says c.args.bytes.now c.requires.1 c.end-of-action.result c.end-of-action.ensures.is c.end-of-resource.result c.end-of-resource.ensures.is c.end-of-context.result c.end-of-context.ensures.is c.record.result c.record.ensures.is
+    says c.args.bytes.now c.requires.1 c.end_of-action.result c.end_of-action.ensures.is c.end_of-resource.result c.end_of-resource.ensures.is c.end_of-context.result c.end_of-context.ensures.is c.record.result c.record.ensures.is

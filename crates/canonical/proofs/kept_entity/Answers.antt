@@ -58,20 +58,20 @@ module _ (bs : Bytes) (h : Got (read_node 66 entity (drop 1 bs))) where
             ap (λ x. (x && d.ok) && b.ok) told-a.1 ∙ ap (λ x. (canonical_record one.attrs && x) && b.ok) q.1 ∙ ap (λ x. (canonical_record one.attrs && canonical_record one.tags) && x) told-b.1
             ∙ sym (ap (λ R. (judged kept_entity 1 R).ok) is_one)
 
-pub end-of-start-requires : goal.end-of-start-requires
-end-of-start-requires c = (c.requires.0, has-uid c.args.bytes.now c.requires.1)
+pub end_of-start-requires : goal.end_of-start-requires
+end_of-start-requires c = (c.requires.0, has-uid c.args.bytes.now c.requires.1)
 
 pub record-attributes-requires : goal.record-attributes-requires
-record-attributes-requires c = (c.end-of-start.ensures.within.1, has-attrs c.args.bytes.now c.requires.1 c.end-of-start.result c.end-of-start.ensures.is)
+record-attributes-requires c = (c.end_of-start.ensures.within.1, has-attrs c.args.bytes.now c.requires.1 c.end_of-start.result c.end_of-start.ensures.is)
 
 pub ancestors-above-requires : goal.ancestors-above-requires
 ancestors-above-requires c =
-    (c.record-attributes.ensures.within.1, (omega arith, has-uids c.args.bytes.now c.requires.1 c.end-of-start.result c.end-of-start.ensures.is c.record-attributes.result c.record-attributes.ensures.is))
+    (c.record-attributes.ensures.within.1, (omega arith, has-uids c.args.bytes.now c.requires.1 c.end_of-start.result c.end_of-start.ensures.is c.record-attributes.result c.record-attributes.ensures.is))
 
 pub record-tags-requires : goal.record-tags-requires
 record-tags-requires c =
-    (c.ancestors-above.ensures.within.1, has-tags c.args.bytes.now c.requires.1 c.end-of-start.result c.end-of-start.ensures.is c.record-attributes.result c.record-attributes.ensures.is c.ancestors-above.result c.ancestors-above.ensures.is)
+    (c.ancestors-above.ensures.within.1, has-tags c.args.bytes.now c.requires.1 c.end_of-start.result c.end_of-start.ensures.is c.record-attributes.result c.record-attributes.ensures.is c.ancestors-above.result c.ancestors-above.ensures.is)
 
 pub returns : goal.returns
 returns c =
-    says c.args.bytes.now c.requires.1 c.end-of-start.result c.end-of-start.ensures.is c.record-attributes.result c.record-attributes.ensures.is c.ancestors-above.result c.ancestors-above.ensures.is c.record-tags.result c.record-tags.ensures.is
+    says c.args.bytes.now c.requires.1 c.end_of-start.result c.end_of-start.ensures.is c.record-attributes.result c.record-attributes.ensures.is c.ancestors-above.result c.ancestors-above.ensures.is c.record-tags.result c.record-tags.ensures.is

@@ -4,8 +4,8 @@ use Rattle.spec.specs.Calls.{canonical_record}
 use Rattle.canonical.proofs.Parts.{record_is, got-turn, judged-turn}
 use Rattle.canonical.proofs.record.Goals as goal
 
-pub overflow-sub-height : goal.overflow-sub-height
-overflow-sub-height c = omega (arith, (record_is c.args.bytes.now c.args.at c.args.height c.requires.1).0)
+pub overflow_sub-height : goal.overflow_sub-height
+overflow_sub-height c = omega (arith, (record_is c.args.bytes.now c.args.at c.args.height c.requires.1).0)
 
 pub named-requires : goal.named-requires
 named-requires c = (c.requires.0, got-turn to_attrs 0 _ _ (record_is c.args.bytes.now c.args.at c.args.height c.requires.1).1 c.requires.1)

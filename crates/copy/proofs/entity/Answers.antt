@@ -97,7 +97,7 @@ list-requires c =
     let fourth = f.fourth c.trees-ancestors.result.end (past ∙ ap (λ n. n + f.k) (a.ends ∙ ap (λ n. n + f.m) u.ends)) in
     let g = wrote row_attrs c.attrs-attributes.new.rows c.attrs-tags.new.rows c.attrs-attributes.result.to c.trees-ancestors.result.end c.attrs-tags.result _ x.1.1.1 f.l c.attrs-tags.ensures.reads fourth in
     let o = c.attrs-tags.auto.rows in
-    let shape = c.item-fields.ensures.is in
+    let shape = c.item_fields.ensures.is in
     record {
       inside = c.attrs-attributes.ensures.inside.ends;
       flat = ap plain_fields shape;
@@ -124,7 +124,7 @@ returns c =
     let o = c.attrs-tags.auto.rows in
     let xs = c.args.rows.now in
     let to = c.args.to in
-    let read = uids-done _ c.item-fields.ensures.is bs c.attrs-attributes.result.end c.attrs-tags.result.to c.attrs-tags.new.rows _ c.list.ensures.reads in
+    let read = uids-done _ c.item_fields.ensures.is bs c.attrs-attributes.result.end c.attrs-tags.result.to c.attrs-tags.new.rows _ c.list.ensures.reads in
     let b = wrote (counted code_uid) c.attrs-tags.new.rows c.list.new.rows c.attrs-tags.result.to c.attrs-attributes.result.end c.list.result _ x.1.1.0 f.k read third in
     record {
       writes = b.rows ∙ ap (λ z. written z c.attrs-tags.result.to (counted code_uid x.1.1.0)) (g.rows ∙ ap (λ z. written z c.attrs-attributes.result.to (row_attrs x.1.1.1)) (a.rows ∙ ap (λ z. written z c.node-uid.result.to (row_attrs x.1.0)) u.rows))

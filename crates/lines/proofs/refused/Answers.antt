@@ -12,6 +12,6 @@ pub returns : goal.returns
 returns c r place small e =
     let read : Some c.in-Some.place ≡ Some place = c.in-Some.ensures.reads place [] small (refused-place c.args.answer.now r place e) in
     let same : c.in-Some.place ≡ place = cc read in
-    c.in-ok-format.ensures.ok
+    c.in_ok-format.ensures.ok
     ∙ ap (λ m. refused_line m c.in-Some.place) (ap (λ l. get_or l 1 0) e)
     ∙ ap (λ p. refused_line (refusal_number r) p) same

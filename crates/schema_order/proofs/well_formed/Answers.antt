@@ -3,22 +3,22 @@ use Rattle.schema_order.proofs.Opened.{and-two}
 use Rattle.schema_order.proofs.Whole.{stands_at, schema-is, well-at}
 use Rattle.schema_order.proofs.well_formed.Goals as goal
 
-pub list-end-actions-requires : goal.list-end-actions-requires
-list-end-actions-requires c = (schema-is c.args.bytes.now c.requires).0.0
+pub list_end-actions-requires : goal.list_end-actions-requires
+list_end-actions-requires c = (schema-is c.args.bytes.now c.requires).0.0
 
-pub rises-types-rise-requires : goal.rises-types-rise-requires
-rises-types-rise-requires c = (schema-is c.args.bytes.now c.requires).0.0
+pub rises-types_rise-requires : goal.rises-types_rise-requires
+rises-types_rise-requires c = (schema-is c.args.bytes.now c.requires).0.0
 
-pub rises-actions-rise-requires : goal.rises-actions-rise-requires
-rises-actions-rise-requires c = (stands_at c.args.bytes.now c.requires _ c.list-end-actions.ensures.0).1
+pub rises-actions_rise-requires : goal.rises-actions_rise-requires
+rises-actions_rise-requires c = (stands_at c.args.bytes.now c.requires _ c.list_end-actions.ensures.0).1
 
-pub entries-fit-types-fit-requires : goal.entries-fit-types-fit-requires
-entries-fit-types-fit-requires c = stands_at c.args.bytes.now c.requires _ c.list-end-actions.ensures.0
+pub entries_fit-types_fit-requires : goal.entries_fit-types_fit-requires
+entries_fit-types_fit-requires c = stands_at c.args.bytes.now c.requires _ c.list_end-actions.ensures.0
 
-pub actions-fit-requires : goal.actions-fit-requires
-actions-fit-requires c = stands_at c.args.bytes.now c.requires _ c.list-end-actions.ensures.0
+pub actions_fit-requires : goal.actions_fit-requires
+actions_fit-requires c = stands_at c.args.bytes.now c.requires _ c.list_end-actions.ensures.0
 
 pub returns : goal.returns
 returns c =
-    and-two _ _ _ _ (and-two _ _ _ _ c.rises-types-rise.ensures c.rises-actions-rise.ensures) (and-two _ _ _ _ c.entries-fit-types-fit.ensures c.actions-fit.ensures)
-    ∙ well-at c.args.bytes.now c.requires _ c.list-end-actions.ensures.0
+    and-two _ _ _ _ (and-two _ _ _ _ c.rises-types_rise.ensures c.rises-actions_rise.ensures) (and-two _ _ _ _ c.entries_fit-types_fit.ensures c.actions_fit.ensures)
+    ∙ well-at c.args.bytes.now c.requires _ c.list_end-actions.ensures.0

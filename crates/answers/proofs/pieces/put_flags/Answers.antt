@@ -8,7 +8,7 @@ use Rattle.answers.proofs.pieces.put_flags.Goals as goal
 
 pub returns : goal.returns
 returns c =
-    let room = leb-true _ _ (sym c.if-not-has-room.ensures) in
+    let room = leb-true _ _ (sym c.if-not-has_room.ensures) in
     record {
       ends = omega arith;
       fits = room;

@@ -4,14 +4,14 @@ use Rattle.std.proofs.lemmas.Bool.{leb-true, leb-false}
 use Rattle.answers.proofs.Writes.{text-long}
 use Rattle.answers.proofs.pieces.put_text.Goals as goal
 
-pub returns-then-not-has-room : goal.returns-then-not-has-room
-returns-then-not-has-room c =
-    record { short = omega (arith, leb-false _ _ (sym c.if-not-has-room.ensures), text-long c.args.text.now); same = refl }
+pub returns-then-not-has_room : goal.returns-then-not-has_room
+returns-then-not-has_room c =
+    record { short = omega (arith, leb-false _ _ (sym c.if-not-has_room.ensures), text-long c.args.text.now); same = refl }
 
-pub returns-then-not-has-room-2 : goal.returns-then-not-has-room-2
-returns-then-not-has-room-2 c =
-    record { short = omega (arith, leb-false _ _ (sym c.if-not-has-room-2.ensures), text-long c.args.text.now); same = refl }
+pub returns-then-not-has_room-2 : goal.returns-then-not-has_room-2
+returns-then-not-has_room-2 c =
+    record { short = omega (arith, leb-false _ _ (sym c.if-not-has_room-2.ensures), text-long c.args.text.now); same = refl }
 
 pub returns : goal.returns
 returns c =
-    record { ends = omega (arith, text-long c.args.text.now); fits = leb-true _ _ (sym c.if-not-has-room-2.ensures); holds = c.set-text.ensures }
+    record { ends = omega (arith, text-long c.args.text.now); fits = leb-true _ _ (sym c.if-not-has_room-2.ensures); holds = c.set_text.ensures }

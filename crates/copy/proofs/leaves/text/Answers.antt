@@ -13,11 +13,11 @@ run-requires c =
     let w = text-there c.args.bytes.now c.args.at _ _ _ c.eight-long.ensures c.requires.inside c.requires.room.is in
     (w.ends, omega (arith, w.long, c.requires.room.fits))
 
-pub overflow-add-result-2 : goal.overflow-add-result-2
-overflow-add-result-2 c = omega (arith, text-there c.args.bytes.now c.args.at _ _ _ c.eight-long.ensures c.requires.inside c.requires.room.is)
+pub overflow_add-result-2 : goal.overflow_add-result-2
+overflow_add-result-2 c = omega (arith, text-there c.args.bytes.now c.args.at _ _ _ c.eight-long.ensures c.requires.inside c.requires.room.is)
 
-pub overflow-add-result-4 : goal.overflow-add-result-4
-overflow-add-result-4 c = omega (arith, text-there c.args.bytes.now c.args.at _ _ _ c.eight-long.ensures c.requires.inside c.requires.room.is, c.requires.room.fits)
+pub overflow_add-result-4 : goal.overflow_add-result-4
+overflow_add-result-4 c = omega (arith, text-there c.args.bytes.now c.args.at _ _ _ c.eight-long.ensures c.requires.inside c.requires.room.is, c.requires.room.fits)
 
 pub returns : goal.returns
 returns c =

@@ -52,8 +52,8 @@ field-list-requires t c = (
   (
     c.requires.inside,
     (
-      ap plain_fields c.item-fields.ensures.is ∙ ap (λ y. plain_field (field_of y)) (sym c.in-List.is) ∙ c.requires.flat,
-      room-items (read_node c.args.height) c.args.bytes.now c.args.at c.args.to _ _ _ c.item-fields.ensures.is (room-is (read_node c.args.height) c.args.bytes.now c.args.at c.args.to _ _ _ c.in-List.is c.requires.room),
+      ap plain_fields c.item_fields.ensures.is ∙ ap (λ y. plain_field (field_of y)) (sym c.in-List.is) ∙ c.requires.flat,
+      room-items (read_node c.args.height) c.args.bytes.now c.args.at c.args.to _ _ _ c.item_fields.ensures.is (room-is (read_node c.args.height) c.args.bytes.now c.args.at c.args.to _ _ _ c.in-List.is c.requires.room),
     ),
   ),
 )
@@ -96,7 +96,7 @@ field-returns-in-Node t c = record { reads = done-is (read_node c.args.height) c
 pub field-returns-in-List : goal.field-returns-in-List
 field-returns-in-List t c =
     record {
-      reads = done-is (read_node c.args.height) c.args.bytes.now c.args.at c.args.to _ _ c.args.rows.now _ c.in-List.is (done-items (read_node c.args.height) c.args.bytes.now c.args.at c.args.to _ _ c.args.rows.now _ c.item-fields.ensures.is c.list.ensures.reads);
+      reads = done-is (read_node c.args.height) c.args.bytes.now c.args.at c.args.to _ _ c.args.rows.now _ c.in-List.is (done-items (read_node c.args.height) c.args.bytes.now c.args.at c.args.to _ _ c.args.rows.now _ c.item_fields.ensures.is c.list.ensures.reads);
       inside = c.list.ensures.inside;
     }
 
@@ -212,8 +212,8 @@ list-returns t c =
     }
 
 -- ---- a tree
-pub node-overflow-sub-height : goal.node-overflow-sub-height
-node-overflow-sub-height t c = Pieces.high (kind_of c.args.kind) c.args.bytes.now c.args.at c.args.height c.args.to _ c.requires.flat c.requires.room
+pub node-overflow_sub-height : goal.node-overflow_sub-height
+node-overflow_sub-height t c = Pieces.high (kind_of c.args.kind) c.args.bytes.now c.args.at c.args.height c.args.to _ c.requires.flat c.requires.room
 
 pub node-fields-requires : goal.node-fields-requires
 node-fields-requires t c =
@@ -229,8 +229,8 @@ node-bounds-bytes-at t c = (Pieces.tag-there (kind_of c.args.kind) c.args.bytes.
 pub node-bounds-table-tag : goal.node-bounds-table-tag
 node-bounds-table-tag t c = (Pieces.tag-there (kind_of c.args.kind) c.args.bytes.now c.args.at c.args.height c.args.to _ c.requires.flat c.requires.room c.in-ByTag.table.now c.in-ByTag.ensures).form
 
-pub node-overflow-sub-height-2 : goal.node-overflow-sub-height-2
-node-overflow-sub-height-2 t c = Pieces.high (kind_of c.args.kind) c.args.bytes.now c.args.at c.args.height c.args.to _ c.requires.flat c.requires.room
+pub node-overflow_sub-height-2 : goal.node-overflow_sub-height-2
+node-overflow_sub-height-2 t c = Pieces.high (kind_of c.args.kind) c.args.bytes.now c.args.at c.args.height c.args.to _ c.requires.flat c.requires.room
 
 pub node-fields-body-requires : goal.node-fields-body-requires
 node-fields-body-requires t c =

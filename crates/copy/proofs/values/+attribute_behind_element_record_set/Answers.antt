@@ -74,8 +74,8 @@ behind-returns-then-tag-eq3 t c =
       inside = record { forth = omega (arith, i.forth); ends = i.ends; on = i.on; fits = i.fits };
     }
 
-pub behind-overflow-sub-height : goal.behind-overflow-sub-height
-behind-overflow-sub-height t c = (ValueForms.value_there c.args.bytes.now c.args.at c.args.height c.requires.room.what c.requires.room.long c.requires.room.is).high
+pub behind-overflow_sub-height : goal.behind-overflow_sub-height
+behind-overflow_sub-height t c = (ValueForms.value_there c.args.bytes.now c.args.at c.args.height c.requires.room.what c.requires.room.long c.requires.room.is).high
 
 pub behind-set-requires : goal.behind-set-requires
 behind-set-requires t c =
@@ -94,8 +94,8 @@ behind-returns-then-tag-eq4 t c =
       inside = record { forth = omega (arith, i.forth); ends = i.ends; on = i.on; fits = i.fits };
     }
 
-pub behind-overflow-sub-height-2 : goal.behind-overflow-sub-height-2
-behind-overflow-sub-height-2 t c = (ValueForms.value_there c.args.bytes.now c.args.at c.args.height c.requires.room.what c.requires.room.long c.requires.room.is).high
+pub behind-overflow_sub-height-2 : goal.behind-overflow_sub-height-2
+behind-overflow_sub-height-2 t c = (ValueForms.value_there c.args.bytes.now c.args.at c.args.height c.requires.room.what c.requires.room.long c.requires.room.is).high
 
 pub behind-record-requires : goal.behind-record-requires
 behind-record-requires t c =
@@ -180,13 +180,13 @@ attribute-returns t c =
 counted-as : {X : Type 0} (at : ℕ) (xs : List X) (m : ℕ) (r : Walked) (R : Read (List X)) → r ≡ walked at R → R ≡ got xs m → r.count ≡ length xs
 counted-as at xs m r R e g = ap (λ w. w.count) (e ∙ ap (λ S. walked at S) g)
 
-pub set-overflow-mul-next : goal.set-overflow-mul-next
-set-overflow-mul-next t c =
+pub set-overflow_mul-next : goal.set-overflow_mul-next
+set-overflow_mul-next t c =
     let room = c.requires.room in
     omega (arith, counted-as c.args.at room.what room.long _ _ c.trees-count.ensures room.is, set_long room.what, room.fits)
 
-pub set-overflow-add-next-2 : goal.set-overflow-add-next-2
-set-overflow-add-next-2 t c =
+pub set-overflow_add-next-2 : goal.set-overflow_add-next-2
+set-overflow_add-next-2 t c =
     let room = c.requires.room in
     omega (arith, counted-as c.args.at room.what room.long _ _ c.trees-count.ensures room.is, set_long room.what, room.fits)
 
@@ -240,22 +240,22 @@ set-returns t c =
     }
 
 -- ---- the elements of a record
-pub record-overflow-mul-next : goal.record-overflow-mul-next
-record-overflow-mul-next t c =
+pub record-overflow_mul-next : goal.record-overflow_mul-next
+record-overflow_mul-next t c =
     let room = c.requires.room in
-    omega (arith, counted-as c.args.at room.what room.long _ _ c.named-values-count.ensures room.is, record-long room.what, room.fits)
+    omega (arith, counted-as c.args.at room.what room.long _ _ c.named_values-count.ensures room.is, record-long room.what, room.fits)
 
-pub record-overflow-add-next-2 : goal.record-overflow-add-next-2
-record-overflow-add-next-2 t c =
+pub record-overflow_add-next-2 : goal.record-overflow_add-next-2
+record-overflow_add-next-2 t c =
     let room = c.requires.room in
-    omega (arith, counted-as c.args.at room.what room.long _ _ c.named-values-count.ensures room.is, record-long room.what, room.fits)
+    omega (arith, counted-as c.args.at room.what room.long _ _ c.named_values-count.ensures room.is, record-long room.what, room.fits)
 
 pub record-loop-end-init : goal.record-loop-end-init
 record-loop-end-init t c =
     let room = c.requires.room in
-    let n = counted-as c.args.at room.what room.long _ _ c.named-values-count.ensures room.is in
+    let n = counted-as c.args.at room.what room.long _ _ c.named_values-count.ensures room.is in
     let l = record-long room.what in
-    let f = filling-none attr_slot attr_behind 3 three-wide (read_fields (read_node c.args.height) (two text (node value))) c.args.bytes.now c.args.at c.args.rows.now c.args.to (3 * c.named-values-count.result.count) room.what room.long room.is (omega (arith, n, slots-of-record 0 room.what)) (omega (arith, n, l, room.fits)) in
+    let f = filling-none attr_slot attr_behind 3 three-wide (read_fields (read_node c.args.height) (two text (node value))) c.args.bytes.now c.args.at c.args.rows.now c.args.to (3 * c.named_values-count.result.count) room.what room.long room.is (omega (arith, n, slots-of-record 0 room.what)) (omega (arith, n, l, room.fits)) in
     (omega arith, (byte-there (read_fields (read_node c.args.height) (two text (node value))) c.args.bytes.now c.args.at c.args.at f.part).0, omega arith, omega arith, omega (arith, n, l, room.fits), f)
 
 pub record-attribute-value-requires : goal.record-attribute-value-requires
@@ -263,7 +263,7 @@ record-attribute-value-requires t c =
     let v = c.loop-end.invariant in
     let f = v.5 in
     let s = step (read_fields (read_node c.args.height) (two text (node value))) c.args.bytes.now c.args.at c.loop-end.end f.part c.loop-end-test.true in
-    let u = one-fits attr_slot attr_behind 3 three-wide (read_fields (read_node c.args.height) (two text (node value))) c.args.bytes.now c.args.at c.args.rows.now c.args.to (3 * c.named-values-count.result.count) c.loop-end.end c.loop-end.rows c.loop-end.place c.loop-end.next f s in
+    let u = one-fits attr_slot attr_behind 3 three-wide (read_fields (read_node c.args.height) (two text (node value))) c.args.bytes.now c.args.at c.args.rows.now c.args.to (3 * c.named_values-count.result.count) c.loop-end.end c.loop-end.rows c.loop-end.place c.loop-end.next f s in
     let k = c.loop-end.auto.rows in
     (omega arith, (omega (arith, v.1), (omega (arith, v.2), (u.0, record { what = s.one; long = s.takes; is = s.is; fits = omega (arith, u.1, k) }))))
 
@@ -272,11 +272,11 @@ record-loop-end-preserved t c =
     let v = c.loop-end.invariant in
     let f = v.5 in
     let s = step (read_fields (read_node c.args.height) (two text (node value))) c.args.bytes.now c.args.at c.loop-end.end f.part c.loop-end-test.true in
-    let u = one-fits attr_slot attr_behind 3 three-wide (read_fields (read_node c.args.height) (two text (node value))) c.args.bytes.now c.args.at c.args.rows.now c.args.to (3 * c.named-values-count.result.count) c.loop-end.end c.loop-end.rows c.loop-end.place c.loop-end.next f s in
+    let u = one-fits attr_slot attr_behind 3 three-wide (read_fields (read_node c.args.height) (two text (node value))) c.args.bytes.now c.args.at c.args.rows.now c.args.to (3 * c.named_values-count.result.count) c.loop-end.end c.loop-end.rows c.loop-end.place c.loop-end.next f s in
     let k = c.loop-end.auto.rows in
     let w = c.attribute-value.ensures.fills s.one s.takes s.is in
     let i = c.attribute-value.ensures.inside in
-    let more = filling-more attr_slot attr_behind 3 three-wide (read_fields (read_node c.args.height) (two text (node value))) c.args.bytes.now c.args.at c.args.rows.now c.args.to (3 * c.named-values-count.result.count) c.loop-end.end c.loop-end.rows c.loop-end.place c.loop-end.next f s c.attribute-value.result.end c.attribute-value.new.rows (c.loop-end.place + 3) c.attribute-value.result.to w.rows w.ends refl w.goes in
+    let more = filling-more attr_slot attr_behind 3 three-wide (read_fields (read_node c.args.height) (two text (node value))) c.args.bytes.now c.args.at c.args.rows.now c.args.to (3 * c.named_values-count.result.count) c.loop-end.end c.loop-end.rows c.loop-end.place c.loop-end.next f s c.attribute-value.result.end c.attribute-value.new.rows (c.loop-end.place + 3) c.attribute-value.result.to w.rows w.ends refl w.goes in
     (omega (arith, v.0, i.forth), (byte-there (read_fields (read_node c.args.height) (two text (node value))) c.args.bytes.now c.args.at c.attribute-value.result.end more.part).0, omega (arith, v.2), omega (arith, u.0, i.on), omega (arith, i.fits, c.attribute-value.auto.rows), more)
 
 pub record-returns : goal.record-returns
@@ -286,13 +286,13 @@ record-returns t c =
     let p = f.part in
     let xs = c.args.rows.now in
     let to = c.args.to in
-    let count = c.named-values-count.result.count in
+    let count = c.named_values-count.result.count in
     let b = byte-there (read_fields (read_node c.args.height) (two text (node value))) c.args.bytes.now c.args.at c.loop-end.end p in
     let z = b.1 c.loop-end-test.false in
     let a = all_there (read_fields (read_node c.args.height) (two text (node value))) c.args.bytes.now c.args.at c.loop-end.end p z in
     let n : count ≡ length p.before =
     omega (arith, f.full, slots-of-record 0 (p.before ++ p.behind), length-append p.before p.behind, ap length (none-behind (read_fields (read_node c.args.height) (two text (node value))) c.args.bytes.now c.args.at c.loop-end.end p z)) in
-    let w = filling-last attr_slot attr_behind 3 three-wide (read_fields (read_node c.args.height) (two text (node value))) c.args.bytes.now c.args.at c.args.rows.now c.args.to (3 * c.named-values-count.result.count) c.loop-end.end c.loop-end.rows c.loop-end.place c.loop-end.next f z count in
+    let w = filling-last attr_slot attr_behind 3 three-wide (read_fields (read_node c.args.height) (two text (node value))) c.args.bytes.now c.args.at c.args.rows.now c.args.to (3 * c.named_values-count.result.count) c.loop-end.end c.loop-end.rows c.loop-end.place c.loop-end.next f z count in
     let row = sym (record-whole count p.before n) in
     record {
       reads = is-after record_row xs _ to c.args.at (record { end = c.loop-end.end + 1; to = c.loop-end.next }) _ p.before p.long a.0 (record { rows = w.0 ∙ ap (λ q. written xs to q) row; ends = a.1; goes = w.1 ∙ ap (λ q. to + length q) row });

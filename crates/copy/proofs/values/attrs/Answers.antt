@@ -6,8 +6,8 @@ use Rattle.copy.proofs.Writes.{wrote, is-after}
 use Rattle.copy.proofs.ValueForms.{attrs-there}
 use Rattle.copy.proofs.values.attrs.Goals as goal
 
-pub overflow-sub-height : goal.overflow-sub-height
-overflow-sub-height c = (attrs-there c.args.bytes.now c.args.at c.args.height c.requires.what c.requires.long c.requires.is).high
+pub overflow_sub-height : goal.overflow_sub-height
+overflow_sub-height c = (attrs-there c.args.bytes.now c.args.at c.args.height c.requires.what c.requires.long c.requires.is).high
 
 pub record-requires : goal.record-requires
 record-requires c =

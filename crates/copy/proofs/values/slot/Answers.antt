@@ -13,7 +13,7 @@ returns c h v n e =
     let xs = c.args.rows.now in
     let entry = c.args.place in
     let b = get_or c.args.bytes.now c.args.at 0 in
-    ap (λ q. set q (entry + 1) c.payload-at.result) (written_one xs entry b (omega arith))
-    ∙ written-push xs entry (b ∷ []) (entry + 1) c.payload-at.result (omega arith) (omega arith)
-    ∙ ap (λ q. written xs entry (q ∷ (c.payload-at.result ∷ []))) (sym (tag_is c.args.bytes.now c.args.at h v n (value_there c.args.bytes.now c.args.at h v n e)))
-    ∙ ap (λ q. written xs entry (value_tag v ∷ (q ∷ []))) (c.payload-at.ensures h v n e)
+    ap (λ q. set q (entry + 1) c.payload_at.result) (written_one xs entry b (omega arith))
+    ∙ written-push xs entry (b ∷ []) (entry + 1) c.payload_at.result (omega arith) (omega arith)
+    ∙ ap (λ q. written xs entry (q ∷ (c.payload_at.result ∷ []))) (sym (tag_is c.args.bytes.now c.args.at h v n (value_there c.args.bytes.now c.args.at h v n e)))
+    ∙ ap (λ q. written xs entry (value_tag v ∷ (q ∷ []))) (c.payload_at.ensures h v n e)

@@ -24,15 +24,15 @@ pub loop-end-smaller : goal.loop-end-smaller
 loop-end-smaller c =
     let v = c.loop-end.invariant in
     let s = step _ c.args.bytes.now c.args.at c.loop-end.end v.0 c.loop-end-test.true in
-    omega (arith, v.1, value-end c.args.height c.args.bytes.now c.args.at c.loop-end.end c.text-end-name-end.result c.node-end-end.result v.0 s c.text-end-name-end.ensures.is c.node-end-end.ensures)
+    omega (arith, v.1, value-end c.args.height c.args.bytes.now c.args.at c.loop-end.end c.text_end-name_end.result c.node_end-end.result v.0 s c.text_end-name_end.ensures.is c.node_end-end.ensures)
 
 pub loop-end-preserved : goal.loop-end-preserved
 loop-end-preserved c =
     let v = c.loop-end.invariant in
     let s = step _ c.args.bytes.now c.args.at c.loop-end.end v.0 c.loop-end-test.true in
-    let e = value-end c.args.height c.args.bytes.now c.args.at c.loop-end.end c.text-end-name-end.result c.node-end-end.result v.0 s c.text-end-name-end.ensures.is c.node-end-end.ensures in
-    let q = part-more _ c.args.bytes.now c.args.at c.loop-end.end c.loop-end.count c.node-end-end.result v.0 s v.2 v.3 e in
-    (q.0, (byte-there _ c.args.bytes.now c.args.at c.node-end-end.result q.0).0, q.1, q.2)
+    let e = value-end c.args.height c.args.bytes.now c.args.at c.loop-end.end c.text_end-name_end.result c.node_end-end.result v.0 s c.text_end-name_end.ensures.is c.node_end-end.ensures in
+    let q = part-more _ c.args.bytes.now c.args.at c.loop-end.end c.loop-end.count c.node_end-end.result v.0 s v.2 v.3 e in
+    (q.0, (byte-there _ c.args.bytes.now c.args.at c.node_end-end.result q.0).0, q.1, q.2)
 
 pub returns : goal.returns
 returns c =

@@ -11,15 +11,15 @@ pub loop-end-smaller : goal.loop-end-smaller
 loop-end-smaller c =
     let v = c.loop-end.invariant in
     let s = step _ c.args.bytes.now c.args.at c.loop-end.end v.0 c.loop-end-test.true in
-    omega (arith, v.1, end-of (c.loop-end.end + 1) c.node-end-end.result _ s.one s.takes c.node-end-end.ensures s.is)
+    omega (arith, v.1, end-of (c.loop-end.end + 1) c.node_end-end.result _ s.one s.takes c.node_end-end.ensures s.is)
 
 pub loop-end-preserved : goal.loop-end-preserved
 loop-end-preserved c =
     let v = c.loop-end.invariant in
     let s = step _ c.args.bytes.now c.args.at c.loop-end.end v.0 c.loop-end-test.true in
-    let e = end-of (c.loop-end.end + 1) c.node-end-end.result _ s.one s.takes c.node-end-end.ensures s.is in
-    let q = part-more _ c.args.bytes.now c.args.at c.loop-end.end c.loop-end.count c.node-end-end.result v.0 s v.2 v.3 e in
-    (q.0, (byte-there _ c.args.bytes.now c.args.at c.node-end-end.result q.0).0, q.1, q.2)
+    let e = end-of (c.loop-end.end + 1) c.node_end-end.result _ s.one s.takes c.node_end-end.ensures s.is in
+    let q = part-more _ c.args.bytes.now c.args.at c.loop-end.end c.loop-end.count c.node_end-end.result v.0 s v.2 v.3 e in
+    (q.0, (byte-there _ c.args.bytes.now c.args.at c.node_end-end.result q.0).0, q.1, q.2)
 
 pub returns : goal.returns
 returns c =

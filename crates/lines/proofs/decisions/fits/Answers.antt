@@ -6,12 +6,12 @@ use Rattle.lines.proofs.Places.{past, truth-back, no_truth, same_truth}
 use Rattle.lines.proofs.Sorts.{two-last}
 use Rattle.lines.proofs.decisions.fits.Goals as goal
 
-pub returns-in-default : goal.returns-in-default
-returns-in-default c request entities e = absurd (no_truth c.args.answer.now c.args.at _ request _ (truth-back request) e c.in-default.ensures.value)
+pub returns-in_default : goal.returns-in_default
+returns-in_default c request entities e = absurd (no_truth c.args.answer.now c.args.at _ request _ (truth-back request) e c.in_default.ensures.value)
 
-pub returns-in-default-truth-at : goal.returns-in-default-truth-at
-returns-in-default-truth-at c request entities e =
-    absurd (no_truth c.args.answer.now (c.args.at + 1) _ entities [] (truth-back entities) (past c.args.answer.now c.args.at 1 (encode_bool request) (encode_bool entities) e refl) c.in-default-truth-at.ensures.value)
+pub returns-in_default-truth_at : goal.returns-in_default-truth_at
+returns-in_default-truth_at c request entities e =
+    absurd (no_truth c.args.answer.now (c.args.at + 1) _ entities [] (truth-back entities) (past c.args.answer.now c.args.at 1 (encode_bool request) (encode_bool entities) e refl) c.in_default-truth_at.ensures.value)
 
 pub returns-then-answer-at : goal.returns-then-answer-at
 returns-then-answer-at c request entities e =
@@ -21,7 +21,7 @@ returns-then-answer-at c request entities e =
 
 pub returns : goal.returns
 returns c request entities e =
-    two-last (string_bytes c.args.line.now) (string_bytes c.push-str.new.self) _ c.either.result.now c.either-2.result.now c.in-Some.request c.in-Some-truth-at.entities request entities _ _ _ _
-    c.in-ok-push-str.ensures.bytes c.in-ok-push-str-2.ensures.bytes c.either.ensures c.either-2.ensures
+    two-last (string_bytes c.args.line.now) (string_bytes c.push_str.new.self) _ c.either.result.now c.either-2.result.now c.in-Some.request c.in-Some-truth_at.entities request entities _ _ _ _
+    c.in_ok-push_str.ensures.bytes c.in_ok-push_str-2.ensures.bytes c.either.ensures c.either-2.ensures
     (same_truth c.args.answer.now c.args.at _ request _ _ (truth-back request) e c.in-Some.ensures.value)
-    (same_truth c.args.answer.now (c.args.at + 1) _ entities _ [] (truth-back entities) (past c.args.answer.now c.args.at 1 (encode_bool request) (encode_bool entities) e refl) c.in-Some-truth-at.ensures.value)
+    (same_truth c.args.answer.now (c.args.at + 1) _ entities _ [] (truth-back entities) (past c.args.answer.now c.args.at 1 (encode_bool request) (encode_bool entities) e refl) c.in-Some-truth_at.ensures.value)

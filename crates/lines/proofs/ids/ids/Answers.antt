@@ -17,18 +17,18 @@ returns-then-answer-at-ne1 c = record {
       absurd (no-mark _ a.0 (list-mark c.args.answer.now c.loop-at.at a.0 rest a.1) c.if-answer-at-eq0.false c.if-answer-at-ne1.true);
 }
 
-pub returns-in-default : goal.returns-in-default
-returns-in-default c = record {
+pub returns-in_default : goal.returns-in_default
+returns-in_default c = record {
   within = tt;
   lists = λ all rest e.
       let a = c.loop-at.invariant all rest e in
-      absurd (no_text c.args.answer.now c.loop-at.at a.0 rest (omega arith) c.if-answer-at-ne1.false a.1 c.in-default.ensures.value);
+      absurd (no_text c.args.answer.now c.loop-at.at a.0 rest (omega arith) c.if-answer-at-ne1.false a.1 c.in_default.ensures.value);
 }
 
 pub loop-at-preserved : goal.loop-at-preserved
 loop-at-preserved c all rest e =
     stepped c.args.answer.now c.loop-at.at (string_bytes c.loop-at.line) (string_bytes c.put.new.line) (string_bytes c.quoted.new.line) (string_bytes c.args.line.now) c.in-Some.id.now all rest
-    (omega arith) c.if-answer-at-ne1.false c.in-Some.ensures.value c.in-ok-put.ensures c.in-ok-quoted.ensures (c.loop-at.invariant all rest e)
+    (omega arith) c.if-answer-at-ne1.false c.in-Some.ensures.value c.in_ok-put.ensures c.in_ok-quoted.ensures (c.loop-at.invariant all rest e)
 
 pub returns : goal.returns
 returns c = record {

@@ -3,4 +3,4 @@ use Rattle.lines.proofs.Joins.{hex-whole}
 use Rattle.lines.proofs.quotes.in_hex.Goals as goal
 
 pub returns : goal.returns
-returns c = hex-whole _ _ _ _ _ _ c.args.b c.in-ok-push-str.ensures.bytes c.in-ok-put.ensures c.in-ok-put-2.ensures c.hex-digit.ensures.value c.hex-digit-2.ensures.value
+returns c = hex-whole _ _ _ _ _ _ c.args.b c.in_ok-push_str.ensures.bytes c.in_ok-put.ensures c.in_ok-put-2.ensures c.hex_digit.ensures.value c.hex_digit-2.ensures.value

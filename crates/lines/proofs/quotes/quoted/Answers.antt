@@ -9,7 +9,7 @@ loop-b-init c = rw escapes-none (sym (append-nil _))
 
 pub loop-b-preserved : goal.loop-b-preserved
 loop-b-preserved c =
-    escapes-step (string_bytes c.put.new.line) (string_bytes c.loop-b.line) _ c.args.id.now c.loop-b.b-index (omega arith) c.loop-b.invariant c.in-ok-escaped.ensures
+    escapes-step (string_bytes c.put.new.line) (string_bytes c.loop-b.line) _ c.args.id.now c.loop-b.b-index (omega arith) c.loop-b.invariant c.in_ok-escaped.ensures
 
 pub returns : goal.returns
-returns c = quote-whole _ _ _ _ c.args.id.now c.loop-b.b-index c.in-ok-put.ensures c.loop-b.invariant (omega arith) c.in-ok-put-2.ensures
+returns c = quote-whole _ _ _ _ c.args.id.now c.loop-b.b-index c.in_ok-put.ensures c.loop-b.invariant (omega arith) c.in_ok-put-2.ensures

@@ -9,5 +9,5 @@ returns-in-Int c h m a s =
     let e : c.in-Int.i ≡ to_z w64 (of_z w64 c.in-Int.i) = search rules in
     is-int h m c.in-Int.i a (subst (λ v. Stands h m v a) c.in-Int.is s) ∙ ap (λ z. ok (raised z)) e
 
-pub returns-in-default : goal.returns-in-default
-returns-in-default c h m a s = no-int h m c.args.v a c.in-default.not-Int s
+pub returns-in_default : goal.returns-in_default
+returns-in_default c h m a s = no-int h m c.args.v a c.in_default.not-Int s

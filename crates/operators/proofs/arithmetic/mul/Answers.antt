@@ -7,6 +7,6 @@ use Rattle.operators.proofs.arithmetic.mul.Goals as goal
 
 pub returns-in-Ok : goal.returns-in-Ok
 returns-in-Ok c h m a b es s t =
-    let e : product (raised c.in-Some.i) (raised c.in-Some-as-int.j) ≡ ok (of_int (raised (to_z w64 (of_z w64 c.in-Ok.z)))) = search rules in
+    let e : product (raised c.in-Some.i) (raised c.in-Some-as_int.j) ≡ ok (of_int (raised (to_z w64 (of_z w64 c.in-Ok.z)))) = search rules in
     says-int h m c.args.v (to_z w64 (of_z w64 c.in-Ok.z)) (with_ints a b product) s.good
-    (with-ints product a b c.in-Some.i c.in-Some-as-int.j (c.in-Some.ensures h m a s) (c.in-Some-as-int.ensures h m b t) ∙ e)
+    (with-ints product a b c.in-Some.i c.in-Some-as_int.j (c.in-Some.ensures h m a s) (c.in-Some-as_int.ensures h m b t) ∙ e)

@@ -18,7 +18,7 @@ returns-in-String c a s =
     (ap (λ o. o >>= (λ t. ok (of_bool (matches (text_at m c.args.pattern) t)))) (is-string h m c.in-String.q a (subst (λ v. Stands h m v a) c.in-String.is s))
     ∙ ap (λ x. ok (of_bool x)) (sym c.matched.ensures))
 
-pub returns-in-default : goal.returns-in-default
-returns-in-default c a s =
+pub returns-in_default : goal.returns-in_default
+returns-in_default c a s =
     let m : List ℕ = c.args.store.now ++ c.args.work.now in
-    ap (λ o. o >>= (λ t. ok (of_bool (matches (text_at m c.args.pattern) t)))) (no-string c.args.height m c.args.v a c.in-default.not-String s)
+    ap (λ o. o >>= (λ t. ok (of_bool (matches (text_at m c.args.pattern) t)))) (no-string c.args.height m c.args.v a c.in_default.not-String s)

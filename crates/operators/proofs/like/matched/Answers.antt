@@ -9,11 +9,11 @@ loop-j-init c =
     let m : List ℕ = c.args.store.now ++ c.args.work.now in
     going-starts (text_at m c.args.p) (text_at m c.args.q)
 
-pub next-step-requires : goal.next-step-requires
-next-step-requires c = record { small = c.requires.small; left = c.requires.left; right = c.requires.right; under = omega (arith, c.word-k.ensures) }
+pub next_step-requires : goal.next_step-requires
+next_step-requires c = record { small = c.requires.small; left = c.requires.left; right = c.requires.right; under = omega (arith, c.word-k.ensures) }
 
-pub overflow-add-i : goal.overflow-add-i
-overflow-add-i c =
+pub overflow_add-i : goal.overflow_add-i
+overflow_add-i c =
     let m : List ℕ = c.args.store.now ++ c.args.work.now in
     let ps : List ℕ = text_at m c.args.p in
     let ts : List ℕ = text_at m c.args.q in
@@ -34,8 +34,8 @@ loop-j-preserved-in-Star c =
     let ts : List ℕ = text_at m c.args.q in
     going-star ps ts c.loop-j.i c.loop-j.j c.loop-j.star c.loop-j.tried (get_or ts c.loop-j.j 0) c.loop-j.invariant (sym c.in-Star.ensures)
 
-pub overflow-add-i-in-Same : goal.overflow-add-i-in-Same
-overflow-add-i-in-Same c =
+pub overflow_add-i-in-Same : goal.overflow_add-i-in-Same
+overflow_add-i-in-Same c =
     let m : List ℕ = c.args.store.now ++ c.args.work.now in
     let ps : List ℕ = text_at m c.args.p in
     let ts : List ℕ = text_at m c.args.q in
@@ -78,8 +78,8 @@ loop-j-preserved c =
     let u : c.loop-j.j < length ts = omega (arith, c.word-k.ensures, long m c.args.q c.requires.right) in
     going-back ps ts c.loop-j.i c.loop-j.j c.loop-j.star c.loop-j.tried c.loop-j.invariant u (omega arith) (sym c.in-Differs.ensures)
 
-pub only-stars-requires : goal.only-stars-requires
-only-stars-requires c =
+pub only_stars-requires : goal.only_stars-requires
+only_stars-requires c =
     let m : List ℕ = c.args.store.now ++ c.args.work.now in
     record { small = c.requires.small; whole = c.requires.left; within = omega (arith, c.loop-j.invariant.within, long m c.args.p c.requires.left) }
 
@@ -89,4 +89,4 @@ returns c =
     let ps : List ℕ = text_at m c.args.p in
     let ts : List ℕ = text_at m c.args.q in
     let u : length ts ≤ c.loop-j.j = omega (arith, c.word-k.ensures, long m c.args.q c.requires.right) in
-    c.only-stars.ensures ∙ sym (going-ends ps ts c.loop-j.i c.loop-j.j c.loop-j.star c.loop-j.tried c.loop-j.invariant u)
+    c.only_stars.ensures ∙ sym (going-ends ps ts c.loop-j.i c.loop-j.j c.loop-j.star c.loop-j.tried c.loop-j.invariant u)

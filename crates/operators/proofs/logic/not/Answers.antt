@@ -10,5 +10,5 @@ returns-in-Bool c h m a s =
     says-bool h m c.args.v (not c.in-Bool.b) (as_bool a >>= (λ b. ok (of_bool (not b)))) s.good
     (ap (λ o. o >>= (λ b. ok (of_bool (not b)))) (is-bool h m c.in-Bool.b a (subst (λ v. Stands h m v a) c.in-Bool.is s)))
 
-pub returns-in-default : goal.returns-in-default
-returns-in-default c h m a s = ap (λ o. o >>= (λ b. ok (of_bool (not b)))) (no_bool h m c.args.v a c.in-default.not-Bool s)
+pub returns-in_default : goal.returns-in_default
+returns-in_default c h m a s = ap (λ o. o >>= (λ b. ok (of_bool (not b)))) (no_bool h m c.args.v a c.in_default.not-Bool s)

@@ -14,7 +14,7 @@ returns-in-Set c a b es s t =
     says-bool h m c.args.v c.contains.result (as_set a >>= (λ vs. ok (of_bool (is_in b vs)))) s.good
     (ap (λ o. o >>= (λ vs. ok (of_bool (is_in b vs)))) (is_set h m c.in-Set.p a (subst (λ v. Stands h m v a) c.in-Set.is s)) ∙ ap (λ x. ok (of_bool x)) e)
 
-pub returns-in-default : goal.returns-in-default
-returns-in-default c a b es s t =
+pub returns-in_default : goal.returns-in_default
+returns-in_default c a b es s t =
     let m : List ℕ = c.args.store.now ++ c.args.work.now in
-    ap (λ o. o >>= (λ vs. ok (of_bool (is_in b vs)))) (no-set c.args.height m c.args.v a c.in-default.not-Set s)
+    ap (λ o. o >>= (λ vs. ok (of_bool (is_in b vs)))) (no-set c.args.height m c.args.v a c.in_default.not-Set s)

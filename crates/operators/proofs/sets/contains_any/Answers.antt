@@ -7,24 +7,24 @@ use Rattle.values.specs.declared.nodes.Value.TheVariants.{Set}
 use Rattle.operators.proofs.Operands.{is_set, no-set, says-bool, with-sets}
 use Rattle.operators.proofs.sets.contains_any.Goals as goal
 
-pub returns-in-default : goal.returns-in-default
-returns-in-default c a b es s t =
+pub returns-in_default : goal.returns-in_default
+returns-in_default c a b es s t =
     let m : List ℕ = c.args.store.now ++ c.args.work.now in
     let f : List Value → List Value → Bool = λ vs ws. any (λ x. is_in x ws) vs in
-    ap (λ o. o >>= (λ vs. as_set b >>= (λ ws. ok (of_bool (f vs ws))))) (no-set c.args.height m c.args.v a c.in-default.not-Set s)
+    ap (λ o. o >>= (λ vs. as_set b >>= (λ ws. ok (of_bool (f vs ws))))) (no-set c.args.height m c.args.v a c.in_default.not-Set s)
 
-pub returns-in-default-w : goal.returns-in-default-w
-returns-in-default-w c a b es s t =
+pub returns-in_default-w : goal.returns-in_default-w
+returns-in_default-w c a b es s t =
     let m : List ℕ = c.args.store.now ++ c.args.work.now in
     let h : ℕ = c.args.height in
     let f : List Value → List Value → Bool = λ vs ws. any (λ x. is_in x ws) vs in
-    ap₂ (λ o q. o >>= (λ vs. q >>= (λ ws. ok (of_bool (f vs ws))))) (is_set h m c.in-Set.p a (subst (λ v. Stands h m v a) c.in-Set.is s)) (no-set h m c.args.w b c.in-default-w.not-Set t)
+    ap₂ (λ o q. o >>= (λ vs. q >>= (λ ws. ok (of_bool (f vs ws))))) (is_set h m c.in-Set.p a (subst (λ v. Stands h m v a) c.in-Set.is s)) (no-set h m c.args.w b c.in_default-w.not-Set t)
 
 pub returns : goal.returns
 returns c a b es s t =
     let m : List ℕ = c.args.store.now ++ c.args.work.now in
     let h : ℕ = c.args.height in
     let f : List Value → List Value → Bool = λ vs ws. any (λ x. is_in x ws) vs in
-    says-bool h m c.args.v c.contains-any.result (with_sets a b f) s.good
+    says-bool h m c.args.v c.contains_any.result (with_sets a b f) s.good
     (with-sets f a b (elements_of (decode h m (Set c.in-Set.p))) (elements_of (decode h m (Set c.in-Set-w.q))) (is_set h m c.in-Set.p a (subst (λ v. Stands h m v a) c.in-Set.is s))
-    (is_set h m c.in-Set-w.q b (subst (λ v. Stands h m v b) c.in-Set-w.is t)) ∙ ap (λ x. ok (of_bool x)) (sym c.contains-any.ensures))
+    (is_set h m c.in-Set-w.q b (subst (λ v. Stands h m v b) c.in-Set-w.is t)) ∙ ap (λ x. ok (of_bool x)) (sym c.contains_any.ensures))

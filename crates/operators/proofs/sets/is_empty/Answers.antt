@@ -6,8 +6,8 @@ use Rattle.values.proofs.Frame.{set-in}
 use Rattle.operators.proofs.Operands.{is_set, no-set, says-bool}
 use Rattle.operators.proofs.sets.is_empty.Goals as goal
 
-pub is-empty-requires : goal.is-empty-requires
-is-empty-requires c =
+pub is_empty-requires : goal.is_empty-requires
+is_empty-requires c =
     let m : List ℕ = c.args.store.now ++ c.args.work.now in
     let f = (set-in m c.args.height c.in-Set.p (subst (Good c.args.height m) c.in-Set.is c.requires.good)).fits in
     record { small = c.requires.small; fits = omega (arith, f) }
@@ -16,11 +16,11 @@ pub returns-in-Set : goal.returns-in-Set
 returns-in-Set c a s =
     let m : List ℕ = c.args.store.now ++ c.args.work.now in
     let h : ℕ = c.args.height in
-    says-bool h m c.args.v c.is-empty.result (as_set a >>= (λ vs. ok (of_bool (is_empty vs)))) s.good
+    says-bool h m c.args.v c.is_empty.result (as_set a >>= (λ vs. ok (of_bool (is_empty vs)))) s.good
     (ap (λ o. o >>= (λ vs. ok (of_bool (is_empty vs)))) (is_set h m c.in-Set.p a (subst (λ v. Stands h m v a) c.in-Set.is s))
-    ∙ ap (λ x. ok (of_bool x)) (sym (c.is-empty.ensures h (subst (Good h m) c.in-Set.is s.good))))
+    ∙ ap (λ x. ok (of_bool x)) (sym (c.is_empty.ensures h (subst (Good h m) c.in-Set.is s.good))))
 
-pub returns-in-default : goal.returns-in-default
-returns-in-default c a s =
+pub returns-in_default : goal.returns-in_default
+returns-in_default c a s =
     let m : List ℕ = c.args.store.now ++ c.args.work.now in
-    ap (λ o. o >>= (λ vs. ok (of_bool (is_empty vs)))) (no-set c.args.height m c.args.v a c.in-default.not-Set s)
+    ap (λ o. o >>= (λ vs. ok (of_bool (is_empty vs)))) (no-set c.args.height m c.args.v a c.in_default.not-Set s)

@@ -8,24 +8,24 @@ use Rattle.schema_order.proofs.entries.entries_fit.Goals as goal
 pub loop-end-init : goal.loop-end-init
 loop-end-init c = (Steps.inside (read_item Entries) c.args.bytes.now 1 c.requires.0, c.requires.0, refl)
 
-pub entry-fits-requires : goal.entry-fits-requires
-entry-fits-requires c =
+pub entry_fits-requires : goal.entry_fits-requires
+entry_fits-requires c =
     let g = Steps.first-got (read_item Entries) c.args.bytes.now c.loop-end.end c.loop-end.invariant.1 c.loop-end-test.true in
     (c.requires, g)
 
-pub returns-then-not-entry-fits : goal.returns-then-not-entry-fits
-returns-then-not-entry-fits c =
+pub returns-then-not-entry_fits : goal.returns-then-not-entry_fits
+returns-then-not-entry_fits c =
     let g = Steps.first-got (read_item Entries) c.args.bytes.now c.loop-end.end c.loop-end.invariant.1 c.loop-end-test.true in
-    Steps.all-no (read_item Entries) c.args.bytes.now c.loop-end.end c.loop-end.invariant.1 (well_formed_entry (schema_at c.args.bytes.now c.args.actions)) c.loop-end-test.true _ c.entry-fits.ensures c.if-not-entry-fits.true ∙ c.loop-end.invariant.2
+    Steps.all-no (read_item Entries) c.args.bytes.now c.loop-end.end c.loop-end.invariant.1 (well_formed_entry (schema_at c.args.bytes.now c.args.actions)) c.loop-end-test.true _ c.entry_fits.ensures c.if-not-entry_fits.true ∙ c.loop-end.invariant.2
 
-pub item-end-end-requires : goal.item-end-end-requires
-item-end-end-requires c = (omega arith, Steps.first-got (read_item Entries) c.args.bytes.now c.loop-end.end c.loop-end.invariant.1 c.loop-end-test.true)
+pub item_end-end-requires : goal.item_end-end-requires
+item_end-end-requires c = (omega arith, Steps.first-got (read_item Entries) c.args.bytes.now c.loop-end.end c.loop-end.invariant.1 c.loop-end-test.true)
 
 pub loop-end-preserved : goal.loop-end-preserved
 loop-end-preserved c =
     let g = Steps.first-got (read_item Entries) c.args.bytes.now c.loop-end.end c.loop-end.invariant.1 c.loop-end-test.true in
-    let s = Steps.step (read_item Entries) c.args.bytes.now c.loop-end.end c.loop-end.invariant.1 c.loop-end-test.true c.item-end-end.result c.item-end-end.ensures in
-    (s.more, s.rest, Steps.all-on (read_item Entries) c.args.bytes.now c.loop-end.end c.loop-end.invariant.1 (well_formed_entry (schema_at c.args.bytes.now c.args.actions)) c.loop-end-test.true c.item-end-end.result c.item-end-end.ensures _ c.entry-fits.ensures c.if-not-entry-fits.false ∙ c.loop-end.invariant.2)
+    let s = Steps.step (read_item Entries) c.args.bytes.now c.loop-end.end c.loop-end.invariant.1 c.loop-end-test.true c.item_end-end.result c.item_end-end.ensures in
+    (s.more, s.rest, Steps.all-on (read_item Entries) c.args.bytes.now c.loop-end.end c.loop-end.invariant.1 (well_formed_entry (schema_at c.args.bytes.now c.args.actions)) c.loop-end-test.true c.item_end-end.result c.item_end-end.ensures _ c.entry_fits.ensures c.if-not-entry_fits.false ∙ c.loop-end.invariant.2)
 
 pub returns : goal.returns
 returns c = Steps.all_end (read_item Entries) c.args.bytes.now c.loop-end.end c.loop-end.invariant.1 (well_formed_entry (schema_at c.args.bytes.now c.args.actions)) c.loop-end-test.false ∙ c.loop-end.invariant.2

@@ -9,24 +9,24 @@ use Rattle.schema_order.proofs.known.all_actions.Goals as goal
 pub loop-end-init : goal.loop-end-init
 loop-end-init c = (Steps.inside (read_item Uids) c.args.bytes.now c.args.at c.requires.1, c.requires.1, refl)
 
-pub has-action-requires : goal.has-action-requires
-has-action-requires c =
+pub has_action-requires : goal.has_action-requires
+has_action-requires c =
     let g = Steps.first-got (read_item Uids) c.args.bytes.now c.loop-end.end c.loop-end.invariant.1 c.loop-end-test.true in
     (c.requires.0, g)
 
-pub returns-then-not-has-action : goal.returns-then-not-has-action
-returns-then-not-has-action c =
+pub returns-then-not-has_action : goal.returns-then-not-has_action
+returns-then-not-has_action c =
     let g = Steps.first-got (read_item Uids) c.args.bytes.now c.loop-end.end c.loop-end.invariant.1 c.loop-end-test.true in
-    Steps.all-no (read_item Uids) c.args.bytes.now c.loop-end.end c.loop-end.invariant.1 (λ u. is_some (find_action u (schema_at c.args.bytes.now c.args.actions))) c.loop-end-test.true _ (c.has-action.ensures ∙ Steps.what-holds (λ u. is_some (find_action u (schema_at c.args.bytes.now c.args.actions))) (record { ty = []; eid = [] }) _ g) c.if-not-has-action.true ∙ c.loop-end.invariant.2
+    Steps.all-no (read_item Uids) c.args.bytes.now c.loop-end.end c.loop-end.invariant.1 (λ u. is_some (find_action u (schema_at c.args.bytes.now c.args.actions))) c.loop-end-test.true _ (c.has_action.ensures ∙ Steps.what-holds (λ u. is_some (find_action u (schema_at c.args.bytes.now c.args.actions))) (record { ty = []; eid = [] }) _ g) c.if-not-has_action.true ∙ c.loop-end.invariant.2
 
-pub item-end-end-requires : goal.item-end-end-requires
-item-end-end-requires c = (omega arith, Steps.first-got (read_item Uids) c.args.bytes.now c.loop-end.end c.loop-end.invariant.1 c.loop-end-test.true)
+pub item_end-end-requires : goal.item_end-end-requires
+item_end-end-requires c = (omega arith, Steps.first-got (read_item Uids) c.args.bytes.now c.loop-end.end c.loop-end.invariant.1 c.loop-end-test.true)
 
 pub loop-end-preserved : goal.loop-end-preserved
 loop-end-preserved c =
     let g = Steps.first-got (read_item Uids) c.args.bytes.now c.loop-end.end c.loop-end.invariant.1 c.loop-end-test.true in
-    let s = Steps.step (read_item Uids) c.args.bytes.now c.loop-end.end c.loop-end.invariant.1 c.loop-end-test.true c.item-end-end.result c.item-end-end.ensures in
-    (s.more, s.rest, Steps.all-on (read_item Uids) c.args.bytes.now c.loop-end.end c.loop-end.invariant.1 (λ u. is_some (find_action u (schema_at c.args.bytes.now c.args.actions))) c.loop-end-test.true c.item-end-end.result c.item-end-end.ensures _ (c.has-action.ensures ∙ Steps.what-holds (λ u. is_some (find_action u (schema_at c.args.bytes.now c.args.actions))) (record { ty = []; eid = [] }) _ g) c.if-not-has-action.false ∙ c.loop-end.invariant.2)
+    let s = Steps.step (read_item Uids) c.args.bytes.now c.loop-end.end c.loop-end.invariant.1 c.loop-end-test.true c.item_end-end.result c.item_end-end.ensures in
+    (s.more, s.rest, Steps.all-on (read_item Uids) c.args.bytes.now c.loop-end.end c.loop-end.invariant.1 (λ u. is_some (find_action u (schema_at c.args.bytes.now c.args.actions))) c.loop-end-test.true c.item_end-end.result c.item_end-end.ensures _ (c.has_action.ensures ∙ Steps.what-holds (λ u. is_some (find_action u (schema_at c.args.bytes.now c.args.actions))) (record { ty = []; eid = [] }) _ g) c.if-not-has_action.false ∙ c.loop-end.invariant.2)
 
 pub returns : goal.returns
 returns c = Steps.all_end (read_item Uids) c.args.bytes.now c.loop-end.end c.loop-end.invariant.1 (λ u. is_some (find_action u (schema_at c.args.bytes.now c.args.actions))) c.loop-end-test.false ∙ c.loop-end.invariant.2

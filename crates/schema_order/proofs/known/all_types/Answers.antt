@@ -9,24 +9,24 @@ use Rattle.schema_order.proofs.known.all_types.Goals as goal
 pub loop-end-init : goal.loop-end-init
 loop-end-init c = (Steps.inside (read_item Names) c.args.bytes.now c.args.at c.requires.1, c.requires.1, refl)
 
-pub has-type-requires : goal.has-type-requires
-has-type-requires c =
+pub has_type-requires : goal.has_type-requires
+has_type-requires c =
     let g = Steps.first-got (read_item Names) c.args.bytes.now c.loop-end.end c.loop-end.invariant.1 c.loop-end-test.true in
     (c.requires.0, g)
 
-pub returns-then-not-has-type : goal.returns-then-not-has-type
-returns-then-not-has-type c =
+pub returns-then-not-has_type : goal.returns-then-not-has_type
+returns-then-not-has_type c =
     let g = Steps.first-got (read_item Names) c.args.bytes.now c.loop-end.end c.loop-end.invariant.1 c.loop-end-test.true in
-    Steps.all-no (read_item Names) c.args.bytes.now c.loop-end.end c.loop-end.invariant.1 (λ n. is_some (find_entity_type n (schema_at c.args.bytes.now c.args.actions))) c.loop-end-test.true _ (c.has-type.ensures ∙ Steps.what-holds (λ n. is_some (find_entity_type n (schema_at c.args.bytes.now c.args.actions))) [] _ g) c.if-not-has-type.true ∙ c.loop-end.invariant.2
+    Steps.all-no (read_item Names) c.args.bytes.now c.loop-end.end c.loop-end.invariant.1 (λ n. is_some (find_entity_type n (schema_at c.args.bytes.now c.args.actions))) c.loop-end-test.true _ (c.has_type.ensures ∙ Steps.what-holds (λ n. is_some (find_entity_type n (schema_at c.args.bytes.now c.args.actions))) [] _ g) c.if-not-has_type.true ∙ c.loop-end.invariant.2
 
-pub item-end-end-requires : goal.item-end-end-requires
-item-end-end-requires c = (omega arith, Steps.first-got (read_item Names) c.args.bytes.now c.loop-end.end c.loop-end.invariant.1 c.loop-end-test.true)
+pub item_end-end-requires : goal.item_end-end-requires
+item_end-end-requires c = (omega arith, Steps.first-got (read_item Names) c.args.bytes.now c.loop-end.end c.loop-end.invariant.1 c.loop-end-test.true)
 
 pub loop-end-preserved : goal.loop-end-preserved
 loop-end-preserved c =
     let g = Steps.first-got (read_item Names) c.args.bytes.now c.loop-end.end c.loop-end.invariant.1 c.loop-end-test.true in
-    let s = Steps.step (read_item Names) c.args.bytes.now c.loop-end.end c.loop-end.invariant.1 c.loop-end-test.true c.item-end-end.result c.item-end-end.ensures in
-    (s.more, s.rest, Steps.all-on (read_item Names) c.args.bytes.now c.loop-end.end c.loop-end.invariant.1 (λ n. is_some (find_entity_type n (schema_at c.args.bytes.now c.args.actions))) c.loop-end-test.true c.item-end-end.result c.item-end-end.ensures _ (c.has-type.ensures ∙ Steps.what-holds (λ n. is_some (find_entity_type n (schema_at c.args.bytes.now c.args.actions))) [] _ g) c.if-not-has-type.false ∙ c.loop-end.invariant.2)
+    let s = Steps.step (read_item Names) c.args.bytes.now c.loop-end.end c.loop-end.invariant.1 c.loop-end-test.true c.item_end-end.result c.item_end-end.ensures in
+    (s.more, s.rest, Steps.all-on (read_item Names) c.args.bytes.now c.loop-end.end c.loop-end.invariant.1 (λ n. is_some (find_entity_type n (schema_at c.args.bytes.now c.args.actions))) c.loop-end-test.true c.item_end-end.result c.item_end-end.ensures _ (c.has_type.ensures ∙ Steps.what-holds (λ n. is_some (find_entity_type n (schema_at c.args.bytes.now c.args.actions))) [] _ g) c.if-not-has_type.false ∙ c.loop-end.invariant.2)
 
 pub returns : goal.returns
 returns c = Steps.all_end (read_item Names) c.args.bytes.now c.loop-end.end c.loop-end.invariant.1 (λ n. is_some (find_entity_type n (schema_at c.args.bytes.now c.args.actions))) c.loop-end-test.false ∙ c.loop-end.invariant.2

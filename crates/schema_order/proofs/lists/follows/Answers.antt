@@ -9,11 +9,11 @@ bounds-bytes-next c = Steps.inside (read_item c.args.listed) c.args.bytes.now c.
 pub returns-then-bytes-next-ne1 : goal.returns-then-bytes-next-ne1
 returns-then-bytes-next-ne1 c = Steps.none_before (read_item c.args.listed) c.args.bytes.now c.args.next c.requires.1 (key c.args.listed) _ c.if-bytes-next-ne1.true
 
-pub overflow-add-next : goal.overflow-add-next
-overflow-add-next c = omega (arith, Steps.inside (read_item c.args.listed) c.args.bytes.now c.args.next c.requires.1)
+pub overflow_add-next : goal.overflow_add-next
+overflow_add-next c = omega (arith, Steps.inside (read_item c.args.listed) c.args.bytes.now c.args.next c.requires.1)
 
-pub less-key-requires : goal.less-key-requires
-less-key-requires c = (c.requires.0, Steps.first-got (read_item c.args.listed) c.args.bytes.now c.args.next c.requires.1 c.if-bytes-next-ne1.false)
+pub less_key-requires : goal.less_key-requires
+less_key-requires c = (c.requires.0, Steps.first-got (read_item c.args.listed) c.args.bytes.now c.args.next c.requires.1 c.if-bytes-next-ne1.false)
 
 pub returns : goal.returns
-returns c = c.less-key.ensures ∙ Steps.head-before (read_item c.args.listed) c.args.bytes.now c.args.next c.requires.1 (key c.args.listed) _ c.if-bytes-next-ne1.false
+returns c = c.less_key.ensures ∙ Steps.head-before (read_item c.args.listed) c.args.bytes.now c.args.next c.requires.1 (key c.args.listed) _ c.if-bytes-next-ne1.false

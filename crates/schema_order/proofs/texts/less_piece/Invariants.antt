@@ -5,7 +5,7 @@ use Rattle.schema_order.specs.Places.{piece}
 use Rattle.schema_order.proofs.texts.less_piece.Given as goal
 
 abbrev pub invariant-loop-i : goal.invariant-loop-i
-invariant-loop-i l = (l.i ≤ l.a-end) × (l.j ≤ l.b-end) × (less (piece l.bytes l.i l.a-end) (piece l.bytes l.j l.b-end) ≡ less (piece l.bytes l.a l.a-end) (piece l.bytes l.b l.b-end))
+invariant-loop-i l = (l.i ≤ l.a_end) × (l.j ≤ l.b_end) × (less (piece l.bytes l.i l.a_end) (piece l.bytes l.j l.b_end) ≡ less (piece l.bytes l.a l.a_end) (piece l.bytes l.b l.b_end))
 
 abbrev pub decreases-loop-i : goal.decreases-loop-i
-decreases-loop-i l = l.a-end - l.i
+decreases-loop-i l = l.a_end - l.i

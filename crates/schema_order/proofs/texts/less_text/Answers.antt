@@ -7,6 +7,6 @@ use Rattle.schema_order.proofs.texts.less_text.Goals as goal
 pub returns : goal.returns
 returns c =
     let bs = c.args.bytes.now in
-    let p = text-piece bs c.args.a c.requires.0 _ c.text-end-a-end.ensures.ends.0 in
-    let q = text-piece bs c.args.b c.requires.1 _ c.text-end-b-end.ensures.ends.0 in
-    c.less-piece.ensures ∙ ap (λ x. less x (piece bs (c.args.b + 8) c.text-end-b-end.result)) p ∙ ap (less (text_at bs c.args.a)) q
+    let p = text-piece bs c.args.a c.requires.0 _ c.text_end-a_end.ensures.ends.0 in
+    let q = text-piece bs c.args.b c.requires.1 _ c.text_end-b_end.ensures.ends.0 in
+    c.less_piece.ensures ∙ ap (λ x. less x (piece bs (c.args.b + 8) c.text_end-b_end.result)) p ∙ ap (less (text_at bs c.args.a)) q

@@ -11,20 +11,20 @@ bounds-bytes-at c = Steps.inside (read_node 65 type) c.args.bytes.now c.args.at 
 pub returns-then-bytes-at-ne1 : goal.returns-then-bytes-at-ne1
 returns-then-bytes-at-ne1 c = Forms.no-tags c.args.bytes.now c.args.at (schema_at c.args.bytes.now c.args.actions) c.requires.1 c.if-bytes-at-ne1.true
 
-pub overflow-add-at : goal.overflow-add-at
-overflow-add-at c = omega (arith, Steps.inside (read_node 65 type) c.args.bytes.now c.args.at c.requires.1)
+pub overflow_add-at : goal.overflow_add-at
+overflow_add-at c = omega (arith, Steps.inside (read_node 65 type) c.args.bytes.now c.args.at c.requires.1)
 
-pub node-end-requires : goal.node-end-requires
-node-end-requires c = (omega (arith, Steps.inside (read_node 65 type) c.args.bytes.now c.args.at c.requires.1), Steps.first-got (read_node 65 type) c.args.bytes.now c.args.at c.requires.1 c.if-bytes-at-ne1.false)
+pub node_end-requires : goal.node_end-requires
+node_end-requires c = (omega (arith, Steps.inside (read_node 65 type) c.args.bytes.now c.args.at c.requires.1), Steps.first-got (read_node 65 type) c.args.bytes.now c.args.at c.requires.1 c.if-bytes-at-ne1.false)
 
-pub bounds-bytes-node-end : goal.bounds-bytes-node-end
-bounds-bytes-node-end c = (Steps.step (read_node 65 type) c.args.bytes.now c.args.at c.requires.1 c.if-bytes-at-ne1.false _ c.node-end.ensures).more
+pub bounds-bytes-node_end : goal.bounds-bytes-node_end
+bounds-bytes-node_end c = (Steps.step (read_node 65 type) c.args.bytes.now c.args.at c.requires.1 c.if-bytes-at-ne1.false _ c.node_end.ensures).more
 
-pub returns-then-bytes-node-end-eq1 : goal.returns-then-bytes-node-end-eq1
-returns-then-bytes-node-end-eq1 c = Forms.more-tags c.args.bytes.now c.args.at (schema_at c.args.bytes.now c.args.actions) c.requires.1 c.if-bytes-at-ne1.false _ c.node-end.ensures c.if-bytes-node-end-eq1.true
+pub returns-then-bytes-node_end-eq1 : goal.returns-then-bytes-node_end-eq1
+returns-then-bytes-node_end-eq1 c = Forms.more-tags c.args.bytes.now c.args.at (schema_at c.args.bytes.now c.args.actions) c.requires.1 c.if-bytes-at-ne1.false _ c.node_end.ensures c.if-bytes-node_end-eq1.true
 
-pub type-fits-requires : goal.type-fits-requires
-type-fits-requires c = (c.requires.0, Steps.first-got (read_node 65 type) c.args.bytes.now c.args.at c.requires.1 c.if-bytes-at-ne1.false)
+pub type_fits-requires : goal.type_fits-requires
+type_fits-requires c = (c.requires.0, Steps.first-got (read_node 65 type) c.args.bytes.now c.args.at c.requires.1 c.if-bytes-at-ne1.false)
 
 pub returns : goal.returns
-returns c = Forms.one_tag c.args.bytes.now c.args.at (schema_at c.args.bytes.now c.args.actions) c.requires.1 c.if-bytes-at-ne1.false _ c.node-end.ensures c.if-bytes-node-end-eq1.false _ c.type-fits.ensures
+returns c = Forms.one_tag c.args.bytes.now c.args.at (schema_at c.args.bytes.now c.args.actions) c.requires.1 c.if-bytes-at-ne1.false _ c.node_end.ensures c.if-bytes-node_end-eq1.false _ c.type_fits.ensures

@@ -25,8 +25,8 @@ loop-k-init c =
     let t : List ℕ = text_at (m ++ c.args.work.now) c.args.key in
     going id_key IdIn m c.args.from c.args.count t c.requires.shelf 0 c.args.from (omega arith) tt
 
-pub compare-names-requires : goal.compare-names-requires
-compare-names-requires c =
+pub compare_names-requires : goal.compare_names-requires
+compare_names-requires c =
     record {
       small = c.requires.small;
       left = c.requires.key;

@@ -28,31 +28,31 @@ module _ (store work : List ℕ) (from count key : ℕ) (shelf : Shelf uid_key U
 pub loop-lo-init : goal.loop-lo-init
 loop-lo-init c = (omega arith, omega arith, tt, none_left uid_key UidIn c.args.store.now c.args.table.from c.args.table.count (t c.args.store.now c.args.work.now c.args.key) c.requires.tabled.shelf c.args.table.count (omega arith))
 
-pub compare-uids-requires : goal.compare-uids-requires
-compare-uids-requires c =
+pub compare_uids-requires : goal.compare_uids-requires
+compare_uids-requires c =
     let k : ℕ = c.loop-lo.lo + (c.loop-lo.hi - c.loop-lo.lo) / 2 in
     let h : k < c.args.table.count = omega (arith, c.loop-lo.invariant.1) in
-    record { small = c.requires.small; left = c.requires.key; right = (seen c.args.store.now c.args.work.now c.args.table.from c.args.table.count c.args.key c.requires.tabled.shelf k c.place-at-at.result h c.place-at-at.ensures.is).0 }
+    record { small = c.requires.small; left = c.requires.key; right = (seen c.args.store.now c.args.work.now c.args.table.from c.args.table.count c.args.key c.requires.tabled.shelf k c.place_at-at.result h c.place_at-at.ensures.is).0 }
 
 pub loop-lo-preserved-in-Less : goal.loop-lo-preserved-in-Less
 loop-lo-preserved-in-Less c =
     let k : ℕ = c.loop-lo.lo + (c.loop-lo.hi - c.loop-lo.lo) / 2 in
     let h : k < c.args.table.count = omega (arith, c.loop-lo.invariant.1) in
-    (omega arith, omega arith, c.loop-lo.invariant.2, less-here uid_key UidIn c.args.store.now c.args.table.from c.args.table.count (t c.args.store.now c.args.work.now c.args.key) c.requires.tabled.shelf k h (told c.args.store.now c.args.work.now c.args.table.from c.args.table.count c.args.key c.requires.tabled.shelf k c.place-at-at.result h c.place-at-at.ensures.is _ c.in-Less.ensures))
+    (omega arith, omega arith, c.loop-lo.invariant.2, less-here uid_key UidIn c.args.store.now c.args.table.from c.args.table.count (t c.args.store.now c.args.work.now c.args.key) c.requires.tabled.shelf k h (told c.args.store.now c.args.work.now c.args.table.from c.args.table.count c.args.key c.requires.tabled.shelf k c.place_at-at.result h c.place_at-at.ensures.is _ c.in-Less.ensures))
 
 pub returns-in-Same : goal.returns-in-Same
 returns-in-Same c =
     let k : ℕ = c.loop-lo.lo + (c.loop-lo.hi - c.loop-lo.lo) / 2 in
     let h : k < c.args.table.count = omega (arith, c.loop-lo.invariant.1) in
     there-here uid_key UidIn c.args.store.now c.args.table.from c.args.table.count (t c.args.store.now c.args.work.now c.args.key) c.requires.tabled.shelf _ h
-    (going uid_key UidIn c.args.store.now c.args.table.from c.args.table.count (t c.args.store.now c.args.work.now c.args.key) c.requires.tabled.shelf k c.place-at-at.result c.place-at-at.ensures.is (under-here uid_key UidIn c.args.store.now c.args.table.from c.args.table.count (t c.args.store.now c.args.work.now c.args.key) c.requires.tabled.shelf k h (told c.args.store.now c.args.work.now c.args.table.from c.args.table.count c.args.key c.requires.tabled.shelf k c.place-at-at.result h c.place-at-at.ensures.is _ c.in-Same.ensures))) refl refl
-    (told c.args.store.now c.args.work.now c.args.table.from c.args.table.count c.args.key c.requires.tabled.shelf k c.place-at-at.result h c.place-at-at.ensures.is _ c.in-Same.ensures)
+    (going uid_key UidIn c.args.store.now c.args.table.from c.args.table.count (t c.args.store.now c.args.work.now c.args.key) c.requires.tabled.shelf k c.place_at-at.result c.place_at-at.ensures.is (under-here uid_key UidIn c.args.store.now c.args.table.from c.args.table.count (t c.args.store.now c.args.work.now c.args.key) c.requires.tabled.shelf k h (told c.args.store.now c.args.work.now c.args.table.from c.args.table.count c.args.key c.requires.tabled.shelf k c.place_at-at.result h c.place_at-at.ensures.is _ c.in-Same.ensures))) refl refl
+    (told c.args.store.now c.args.work.now c.args.table.from c.args.table.count c.args.key c.requires.tabled.shelf k c.place_at-at.result h c.place_at-at.ensures.is _ c.in-Same.ensures)
 
 pub loop-lo-preserved : goal.loop-lo-preserved
 loop-lo-preserved c =
     let k : ℕ = c.loop-lo.lo + (c.loop-lo.hi - c.loop-lo.lo) / 2 in
     let h : k < c.args.table.count = omega (arith, c.loop-lo.invariant.1) in
-    (omega arith, c.loop-lo.invariant.1, greater-here uid_key UidIn c.args.store.now c.args.table.from c.args.table.count (t c.args.store.now c.args.work.now c.args.key) c.requires.tabled.shelf k h (told c.args.store.now c.args.work.now c.args.table.from c.args.table.count c.args.key c.requires.tabled.shelf k c.place-at-at.result h c.place-at-at.ensures.is _ c.in-Greater.ensures), c.loop-lo.invariant.3)
+    (omega arith, c.loop-lo.invariant.1, greater-here uid_key UidIn c.args.store.now c.args.table.from c.args.table.count (t c.args.store.now c.args.work.now c.args.key) c.requires.tabled.shelf k h (told c.args.store.now c.args.work.now c.args.table.from c.args.table.count c.args.key c.requires.tabled.shelf k c.place_at-at.result h c.place_at-at.ensures.is _ c.in-Greater.ensures), c.loop-lo.invariant.3)
 
 -- the search has ended: what is not less is greater
 ended : (m : List ℕ) (from count lo hi : ℕ) (t : List ℕ) → lo ≤ hi → hi ≤ lo → Before uid_key t (drop hi (items_at m from count)) → Before uid_key t (drop lo (items_at m from count))
@@ -70,5 +70,5 @@ returns-then-lo-table c =
 pub returns : goal.returns
 returns c =
     new-here uid_key UidIn c.args.store.now c.args.table.from c.args.table.count (t c.args.store.now c.args.work.now c.args.key) c.requires.tabled.shelf _ (omega (arith, c.loop-lo.invariant.0, c.loop-lo.invariant.1))
-    (going uid_key UidIn c.args.store.now c.args.table.from c.args.table.count (t c.args.store.now c.args.work.now c.args.key) c.requires.tabled.shelf c.loop-lo.lo c.place-at-at-2.result c.place-at-at-2.ensures.is c.loop-lo.invariant.2) refl refl
+    (going uid_key UidIn c.args.store.now c.args.table.from c.args.table.count (t c.args.store.now c.args.work.now c.args.key) c.requires.tabled.shelf c.loop-lo.lo c.place_at-at-2.result c.place_at-at-2.ensures.is c.loop-lo.invariant.2) refl refl
     (ended c.args.store.now c.args.table.from c.args.table.count c.loop-lo.lo c.loop-lo.hi _ c.loop-lo.invariant.0 c.loop-lo-test.false c.loop-lo.invariant.3)

@@ -23,14 +23,14 @@ returns-then-old-new c = stays c.args.part.now c.args.old c.args.new c.if-old-ne
 pub loop-x-init : goal.loop-x-init
 loop-x-init c = refl
 
-pub overflow-sub-x : goal.overflow-sub-x
-overflow-sub-x c =
+pub overflow_sub-x : goal.overflow_sub-x
+overflow_sub-x c =
     let h : c.loop-x.x-index < length c.args.part.now = search rules in
     let e = still c.args.part.now c.loop-x.part (λ x. x - c.args.old + c.args.new) c.loop-x.x-index h c.loop-x.invariant in
     omega (arith, c.requires c.loop-x.x-index h)
 
-pub overflow-add-x : goal.overflow-add-x
-overflow-add-x c =
+pub overflow_add-x : goal.overflow_add-x
+overflow_add-x c =
     let h : c.loop-x.x-index < length c.args.part.now = search rules in
     let e = still c.args.part.now c.loop-x.part (λ x. x - c.args.old + c.args.new) c.loop-x.x-index h c.loop-x.invariant in
     let b = c.requires c.loop-x.x-index h in

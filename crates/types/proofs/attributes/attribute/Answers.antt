@@ -5,25 +5,25 @@ use Rattle.types.proofs.Walks.{good-step, name_in}
 use Rattle.types.proofs.Finds.{seen, seen_none, seen_here, seen-on}
 use Rattle.types.proofs.attributes.attribute.Goals as goal
 
-pub attr-at-attr-requires : goal.attr-at-attr-requires
-attr-at-attr-requires c = (good-step (Good c.requires.attrs.0 c.args.store.now c.args.work.now 0 (length c.args.work.now)) c.args.stored c.args.store.now c.args.work.now (length c.args.work.now) c.loop-left.left c.loop-left.e c.loop-left-test.true (c.loop-left.invariant c.requires.attrs.0 (subst (λ n. GoodFrom (Good c.requires.attrs.0 c.args.store.now c.args.work.now 0 (length c.args.work.now)) c.args.stored c.args.store.now c.args.work.now (length c.args.work.now) n (c.args.p + 1)) (sym c.count-left.ensures) c.requires.attrs.1.each)).0).0
+pub attr_at-attr-requires : goal.attr_at-attr-requires
+attr_at-attr-requires c = (good-step (Good c.requires.attrs.0 c.args.store.now c.args.work.now 0 (length c.args.work.now)) c.args.stored c.args.store.now c.args.work.now (length c.args.work.now) c.loop-left.left c.loop-left.e c.loop-left-test.true (c.loop-left.invariant c.requires.attrs.0 (subst (λ n. GoodFrom (Good c.requires.attrs.0 c.args.store.now c.args.work.now 0 (length c.args.work.now)) c.args.stored c.args.store.now c.args.work.now (length c.args.work.now) n (c.args.p + 1)) (sym c.count-left.ensures) c.requires.attrs.1.each)).0).0
 
-pub same-names-requires : goal.same-names-requires
-same-names-requires c = record { left = c.requires.name; right = subst (TextIn c.args.store.now) (sym c.attr-at-attr.ensures.name) (name_in c.args.stored c.args.store.now c.args.work.now (length c.args.work.now) c.loop-left.e (good-step (Good c.requires.attrs.0 c.args.store.now c.args.work.now 0 (length c.args.work.now)) c.args.stored c.args.store.now c.args.work.now (length c.args.work.now) c.loop-left.left c.loop-left.e c.loop-left-test.true (c.loop-left.invariant c.requires.attrs.0 (subst (λ n. GoodFrom (Good c.requires.attrs.0 c.args.store.now c.args.work.now 0 (length c.args.work.now)) c.args.stored c.args.store.now c.args.work.now (length c.args.work.now) n (c.args.p + 1)) (sym c.count-left.ensures) c.requires.attrs.1.each)).0).0) }
+pub same_names-requires : goal.same_names-requires
+same_names-requires c = record { left = c.requires.name; right = subst (TextIn c.args.store.now) (sym c.attr_at-attr.ensures.name) (name_in c.args.stored c.args.store.now c.args.work.now (length c.args.work.now) c.loop-left.e (good-step (Good c.requires.attrs.0 c.args.store.now c.args.work.now 0 (length c.args.work.now)) c.args.stored c.args.store.now c.args.work.now (length c.args.work.now) c.loop-left.left c.loop-left.e c.loop-left-test.true (c.loop-left.invariant c.requires.attrs.0 (subst (λ n. GoodFrom (Good c.requires.attrs.0 c.args.store.now c.args.work.now 0 (length c.args.work.now)) c.args.stored c.args.store.now c.args.work.now (length c.args.work.now) n (c.args.p + 1)) (sym c.count-left.ensures) c.requires.attrs.1.each)).0).0) }
 
-pub returns-then-same-names : goal.returns-then-same-names
-returns-then-same-names c h a =
+pub returns-then-same_names : goal.returns-then-same_names
+returns-then-same_names c h a =
     let g = (subst (λ n. GoodFrom (Good h c.args.store.now c.args.work.now 0 (length c.args.work.now)) c.args.stored c.args.store.now c.args.work.now (length c.args.work.now) n (c.args.p + 1)) (sym c.count-left.ensures) a.each) in
     let x = good-step (Good h c.args.store.now c.args.work.now 0 (length c.args.work.now)) c.args.stored c.args.store.now c.args.work.now (length c.args.work.now) c.loop-left.left c.loop-left.e c.loop-left-test.true (c.loop-left.invariant h g).0 in (
-      subst (Good h c.args.store.now c.args.work.now 0 (length c.args.work.now)) (sym c.attr-at-attr.ensures.ty) x.1,
-      ap (λ n. seen (decode h c.args.store.now c.args.work.now) c.args.stored c.args.store.now c.args.work.now (text_at c.args.store.now c.args.name) n (c.args.p + 1)) (sym c.count-left.ensures) ∙ sym (c.loop-left.invariant h g).1 ∙ seen_here (decode h c.args.store.now c.args.work.now) c.args.stored c.args.store.now c.args.work.now (text_at c.args.store.now c.args.name) c.loop-left.left c.loop-left.e c.attr-at-attr.result.name c.attr-at-attr.result.required c.attr-at-attr.result.ty c.loop-left-test.true c.attr-at-attr.ensures.name c.attr-at-attr.ensures.required c.attr-at-attr.ensures.ty c.if-same-names.ensures,
+      subst (Good h c.args.store.now c.args.work.now 0 (length c.args.work.now)) (sym c.attr_at-attr.ensures.ty) x.1,
+      ap (λ n. seen (decode h c.args.store.now c.args.work.now) c.args.stored c.args.store.now c.args.work.now (text_at c.args.store.now c.args.name) n (c.args.p + 1)) (sym c.count-left.ensures) ∙ sym (c.loop-left.invariant h g).1 ∙ seen_here (decode h c.args.store.now c.args.work.now) c.args.stored c.args.store.now c.args.work.now (text_at c.args.store.now c.args.name) c.loop-left.left c.loop-left.e c.attr_at-attr.result.name c.attr_at-attr.result.required c.attr_at-attr.result.ty c.loop-left-test.true c.attr_at-attr.ensures.name c.attr_at-attr.ensures.required c.attr_at-attr.ensures.ty c.if-same_names.ensures,
     )
 
 pub loop-left-preserved : goal.loop-left-preserved
 loop-left-preserved c h g =
     let x = good-step (Good h c.args.store.now c.args.work.now 0 (length c.args.work.now)) c.args.stored c.args.store.now c.args.work.now (length c.args.work.now) c.loop-left.left c.loop-left.e c.loop-left-test.true (c.loop-left.invariant h g).0 in (
-      subst (GoodFrom (Good h c.args.store.now c.args.work.now 0 (length c.args.work.now)) c.args.stored c.args.store.now c.args.work.now (length c.args.work.now) (c.loop-left.left - 1)) (sym c.attr-at-attr.ensures.next) x.2,
-      seen-on (decode h c.args.store.now c.args.work.now) c.args.stored c.args.store.now c.args.work.now (text_at c.args.store.now c.args.name) c.loop-left.left c.loop-left.e c.attr-at-attr.result.name c.attr-at-attr.result.next c.loop-left-test.true c.attr-at-attr.ensures.name c.attr-at-attr.ensures.next c.if-same-names.ensures ∙ (c.loop-left.invariant h g).1,
+      subst (GoodFrom (Good h c.args.store.now c.args.work.now 0 (length c.args.work.now)) c.args.stored c.args.store.now c.args.work.now (length c.args.work.now) (c.loop-left.left - 1)) (sym c.attr_at-attr.ensures.next) x.2,
+      seen-on (decode h c.args.store.now c.args.work.now) c.args.stored c.args.store.now c.args.work.now (text_at c.args.store.now c.args.name) c.loop-left.left c.loop-left.e c.attr_at-attr.result.name c.attr_at-attr.result.next c.loop-left-test.true c.attr_at-attr.ensures.name c.attr_at-attr.ensures.next c.if-same_names.ensures ∙ (c.loop-left.invariant h g).1,
     )
 
 pub returns : goal.returns

@@ -6,14 +6,14 @@ use Rattle.types.proofs.Rules.{joins-tells}
 use Rattle.types.proofs.Joins.{not_there}
 use Rattle.types.proofs.joining.lub.Goals as goal
 
-pub match-types-requires : goal.match-types-requires
-match-types-requires c = record {
+pub match_types-requires : goal.match_types-requires
+match_types-requires c = record {
   left = wider c.args.store.now c.args.work.now 0 0 c.args.top.now (length c.args.work.now) (omega arith) c.requires.fits c.args.height c.args.v c.requires.left;
   right = wider c.args.store.now c.args.work.now 0 0 c.args.top.now (length c.args.work.now) (omega arith) c.requires.fits c.args.height c.args.u c.requires.right;
 }
 
-pub returns-then-not-match-types : goal.returns-then-not-match-types
-returns-then-not-match-types c = (refl, refl, not_there (s.lub (decode c.args.height c.args.store.now c.args.work.now c.args.v) (decode c.args.height c.args.store.now c.args.work.now c.args.u)) (joins-tells (decode c.args.height c.args.store.now c.args.work.now c.args.v) (decode c.args.height c.args.store.now c.args.work.now c.args.u) ∙ sym c.if-not-match-types.ensures))
+pub returns-then-not-match_types : goal.returns-then-not-match_types
+returns-then-not-match_types c = (refl, refl, not_there (s.lub (decode c.args.height c.args.store.now c.args.work.now c.args.v) (decode c.args.height c.args.store.now c.args.work.now c.args.u)) (joins-tells (decode c.args.height c.args.store.now c.args.work.now c.args.v) (decode c.args.height c.args.store.now c.args.work.now c.args.u) ∙ sym c.if-not-match_types.ensures))
 
 pub join-requires : goal.join-requires
 join-requires c = record {
@@ -21,5 +21,5 @@ join-requires c = record {
   room = c.requires.room;
   left = c.requires.left;
   right = c.requires.right;
-  exists = joins-tells (decode c.args.height c.args.store.now c.args.work.now c.args.v) (decode c.args.height c.args.store.now c.args.work.now c.args.u) ∙ sym c.if-not-match-types.ensures;
+  exists = joins-tells (decode c.args.height c.args.store.now c.args.work.now c.args.v) (decode c.args.height c.args.store.now c.args.work.now c.args.u) ∙ sym c.if-not-match_types.ensures;
 }

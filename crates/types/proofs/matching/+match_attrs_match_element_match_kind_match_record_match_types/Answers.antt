@@ -5,60 +5,60 @@ use Rattle.types.specs.Matching.{match_type}
 use Rattle.types.proofs.Walks.{under, good-step, name_in, left, match_none, match-counts, no_name, no-required, no-type, all_same}
 use Rattle.types.proofs.matching.+match_attrs_match_element_match_kind_match_record_match_types.Goals as goal
 
-pub match-attrs-returns-then-left-count : goal.match-attrs-returns-then-left-count
-match-attrs-returns-then-left-count t c =
+pub match_attrs-returns-then-left-count : goal.match_attrs-returns-then-left-count
+match_attrs-returns-then-left-count t c =
     sym (match-counts c.args.rule (decode c.args.height c.args.store.now c.args.work.now) c.args.stored c.args.other c.args.store.now c.args.work.now (count_at c.args.stored c.args.store.now c.args.work.now c.args.p) (count_at c.args.other c.args.store.now c.args.work.now c.args.q) (c.args.p + 1) (c.args.q + 1) (λ q. c.if-left-count.true (c.count-left.ensures ∙ q ∙ sym c.count.ensures)))
 
-pub match-attrs-attr-at-a-requires : goal.match-attrs-attr-at-a-requires
-match-attrs-attr-at-a-requires t c =
+pub match_attrs-attr_at-a-requires : goal.match_attrs-attr_at-a-requires
+match_attrs-attr_at-a-requires t c =
     (good-step (Good c.args.height c.args.store.now c.args.work.now 0 (length c.args.work.now)) c.args.stored c.args.store.now c.args.work.now (length c.args.work.now) c.loop-left.left c.loop-left.e c.loop-left-test.true c.loop-left.invariant.1).0
 
-pub match-attrs-attr-at-b-requires : goal.match-attrs-attr-at-b-requires
-match-attrs-attr-at-b-requires t c =
+pub match_attrs-attr_at-b-requires : goal.match_attrs-attr_at-b-requires
+match_attrs-attr_at-b-requires t c =
     (good-step (Good c.args.height c.args.store.now c.args.work.now 0 (length c.args.work.now)) c.args.other c.args.store.now c.args.work.now (length c.args.work.now) c.loop-left.left c.loop-left.f c.loop-left-test.true c.loop-left.invariant.2).0
 
-pub match-attrs-same-names-requires : goal.match-attrs-same-names-requires
-match-attrs-same-names-requires t c =
+pub match_attrs-same_names-requires : goal.match_attrs-same_names-requires
+match_attrs-same_names-requires t c =
     let x = good-step (Good c.args.height c.args.store.now c.args.work.now 0 (length c.args.work.now)) c.args.stored c.args.store.now c.args.work.now (length c.args.work.now) c.loop-left.left c.loop-left.e c.loop-left-test.true c.loop-left.invariant.1 in
     let y = good-step (Good c.args.height c.args.store.now c.args.work.now 0 (length c.args.work.now)) c.args.other c.args.store.now c.args.work.now (length c.args.work.now) c.loop-left.left c.loop-left.f c.loop-left-test.true c.loop-left.invariant.2 in
-    record { left = subst (TextIn c.args.store.now) (sym c.attr-at-a.ensures.name) (name_in c.args.stored c.args.store.now c.args.work.now (length c.args.work.now) c.loop-left.e x.0); right = subst (TextIn c.args.store.now) (sym c.attr-at-b.ensures.name) (name_in c.args.other c.args.store.now c.args.work.now (length c.args.work.now) c.loop-left.f y.0) }
+    record { left = subst (TextIn c.args.store.now) (sym c.attr_at-a.ensures.name) (name_in c.args.stored c.args.store.now c.args.work.now (length c.args.work.now) c.loop-left.e x.0); right = subst (TextIn c.args.store.now) (sym c.attr_at-b.ensures.name) (name_in c.args.other c.args.store.now c.args.work.now (length c.args.work.now) c.loop-left.f y.0) }
 
-pub match-attrs-returns-then-not-same-names : goal.match-attrs-returns-then-not-same-names
-match-attrs-returns-then-not-same-names t c =
-    no_name c.args.rule (decode c.args.height c.args.store.now c.args.work.now) c.args.stored c.args.other c.args.store.now c.args.work.now c.loop-left.left c.loop-left.e c.loop-left.f c.attr-at-a.result.name c.attr-at-b.result.name c.attr-at-a.result.required c.attr-at-b.result.required c.attr-at-a.result.ty c.attr-at-b.result.ty c.loop-left-test.true c.attr-at-a.ensures.name c.attr-at-b.ensures.name c.attr-at-a.ensures.required c.attr-at-b.ensures.required c.attr-at-a.ensures.ty c.attr-at-b.ensures.ty c.if-not-same-names.ensures ∙ c.loop-left.invariant.0
+pub match_attrs-returns-then-not-same_names : goal.match_attrs-returns-then-not-same_names
+match_attrs-returns-then-not-same_names t c =
+    no_name c.args.rule (decode c.args.height c.args.store.now c.args.work.now) c.args.stored c.args.other c.args.store.now c.args.work.now c.loop-left.left c.loop-left.e c.loop-left.f c.attr_at-a.result.name c.attr_at-b.result.name c.attr_at-a.result.required c.attr_at-b.result.required c.attr_at-a.result.ty c.attr_at-b.result.ty c.loop-left-test.true c.attr_at-a.ensures.name c.attr_at-b.ensures.name c.attr_at-a.ensures.required c.attr_at-b.ensures.required c.attr_at-a.ensures.ty c.attr_at-b.ensures.ty c.if-not-same_names.ensures ∙ c.loop-left.invariant.0
 
-pub match-attrs-returns-then-a-b : goal.match-attrs-returns-then-a-b
-match-attrs-returns-then-a-b t c =
-    no-required c.args.rule (decode c.args.height c.args.store.now c.args.work.now) c.args.stored c.args.other c.args.store.now c.args.work.now c.loop-left.left c.loop-left.e c.loop-left.f c.attr-at-a.result.name c.attr-at-b.result.name c.attr-at-a.result.required c.attr-at-b.result.required c.attr-at-a.result.ty c.attr-at-b.result.ty c.loop-left-test.true c.attr-at-a.ensures.name c.attr-at-b.ensures.name c.attr-at-a.ensures.required c.attr-at-b.ensures.required c.attr-at-a.ensures.ty c.attr-at-b.ensures.ty c.if-a-b.true ∙ c.loop-left.invariant.0
+pub match_attrs-returns-then-a-b : goal.match_attrs-returns-then-a-b
+match_attrs-returns-then-a-b t c =
+    no-required c.args.rule (decode c.args.height c.args.store.now c.args.work.now) c.args.stored c.args.other c.args.store.now c.args.work.now c.loop-left.left c.loop-left.e c.loop-left.f c.attr_at-a.result.name c.attr_at-b.result.name c.attr_at-a.result.required c.attr_at-b.result.required c.attr_at-a.result.ty c.attr_at-b.result.ty c.loop-left-test.true c.attr_at-a.ensures.name c.attr_at-b.ensures.name c.attr_at-a.ensures.required c.attr_at-b.ensures.required c.attr_at-a.ensures.ty c.attr_at-b.ensures.ty c.if-a-b.true ∙ c.loop-left.invariant.0
 
-pub match-attrs-match-types-requires : goal.match-attrs-match-types-requires
-match-attrs-match-types-requires t c =
+pub match_attrs-match_types-requires : goal.match_attrs-match_types-requires
+match_attrs-match_types-requires t c =
     let x = good-step (Good c.args.height c.args.store.now c.args.work.now 0 (length c.args.work.now)) c.args.stored c.args.store.now c.args.work.now (length c.args.work.now) c.loop-left.left c.loop-left.e c.loop-left-test.true c.loop-left.invariant.1 in
     let y = good-step (Good c.args.height c.args.store.now c.args.work.now 0 (length c.args.work.now)) c.args.other c.args.store.now c.args.work.now (length c.args.work.now) c.loop-left.left c.loop-left.f c.loop-left-test.true c.loop-left.invariant.2 in
-    (omega arith, (subst (Good c.args.height c.args.store.now c.args.work.now 0 (length c.args.work.now)) (sym c.attr-at-a.ensures.ty) x.1, subst (Good c.args.height c.args.store.now c.args.work.now 0 (length c.args.work.now)) (sym c.attr-at-b.ensures.ty) y.1))
+    (omega arith, (subst (Good c.args.height c.args.store.now c.args.work.now 0 (length c.args.work.now)) (sym c.attr_at-a.ensures.ty) x.1, subst (Good c.args.height c.args.store.now c.args.work.now 0 (length c.args.work.now)) (sym c.attr_at-b.ensures.ty) y.1))
 
-pub match-attrs-returns-then-not-match-types : goal.match-attrs-returns-then-not-match-types
-match-attrs-returns-then-not-match-types t c =
-    no-type c.args.rule (decode c.args.height c.args.store.now c.args.work.now) c.args.stored c.args.other c.args.store.now c.args.work.now c.loop-left.left c.loop-left.e c.loop-left.f c.attr-at-a.result.name c.attr-at-b.result.name c.attr-at-a.result.required c.attr-at-b.result.required c.attr-at-a.result.ty c.attr-at-b.result.ty c.loop-left-test.true c.attr-at-a.ensures.name c.attr-at-b.ensures.name c.attr-at-a.ensures.required c.attr-at-b.ensures.required c.attr-at-a.ensures.ty c.attr-at-b.ensures.ty c.if-not-match-types.ensures ∙ c.loop-left.invariant.0
+pub match_attrs-returns-then-not-match_types : goal.match_attrs-returns-then-not-match_types
+match_attrs-returns-then-not-match_types t c =
+    no-type c.args.rule (decode c.args.height c.args.store.now c.args.work.now) c.args.stored c.args.other c.args.store.now c.args.work.now c.loop-left.left c.loop-left.e c.loop-left.f c.attr_at-a.result.name c.attr_at-b.result.name c.attr_at-a.result.required c.attr_at-b.result.required c.attr_at-a.result.ty c.attr_at-b.result.ty c.loop-left-test.true c.attr_at-a.ensures.name c.attr_at-b.ensures.name c.attr_at-a.ensures.required c.attr_at-b.ensures.required c.attr_at-a.ensures.ty c.attr_at-b.ensures.ty c.if-not-match_types.ensures ∙ c.loop-left.invariant.0
 
-pub match-attrs-loop-left-preserved : goal.match-attrs-loop-left-preserved
-match-attrs-loop-left-preserved t c =
+pub match_attrs-loop-left-preserved : goal.match_attrs-loop-left-preserved
+match_attrs-loop-left-preserved t c =
     let x = good-step (Good c.args.height c.args.store.now c.args.work.now 0 (length c.args.work.now)) c.args.stored c.args.store.now c.args.work.now (length c.args.work.now) c.loop-left.left c.loop-left.e c.loop-left-test.true c.loop-left.invariant.1 in
     let y = good-step (Good c.args.height c.args.store.now c.args.work.now 0 (length c.args.work.now)) c.args.other c.args.store.now c.args.work.now (length c.args.work.now) c.loop-left.left c.loop-left.f c.loop-left-test.true c.loop-left.invariant.2 in
-    let k = all_same c.args.rule (decode c.args.height c.args.store.now c.args.work.now) c.args.stored c.args.other c.args.store.now c.args.work.now c.loop-left.left c.loop-left.e c.loop-left.f c.attr-at-a.result.name c.attr-at-b.result.name c.attr-at-a.result.required c.attr-at-b.result.required c.attr-at-a.result.ty c.attr-at-b.result.ty c.loop-left-test.true c.attr-at-a.ensures.name c.attr-at-b.ensures.name c.attr-at-a.ensures.required c.attr-at-b.ensures.required c.attr-at-a.ensures.ty c.attr-at-b.ensures.ty c.if-not-same-names.ensures c.if-a-b.false c.if-not-match-types.ensures ∙ c.loop-left.invariant.0 in
-    let e = c.attr-at-a.ensures.next in
-    let f = c.attr-at-b.ensures.next in (
+    let k = all_same c.args.rule (decode c.args.height c.args.store.now c.args.work.now) c.args.stored c.args.other c.args.store.now c.args.work.now c.loop-left.left c.loop-left.e c.loop-left.f c.attr_at-a.result.name c.attr_at-b.result.name c.attr_at-a.result.required c.attr_at-b.result.required c.attr_at-a.result.ty c.attr_at-b.result.ty c.loop-left-test.true c.attr_at-a.ensures.name c.attr_at-b.ensures.name c.attr_at-a.ensures.required c.attr_at-b.ensures.required c.attr_at-a.ensures.ty c.attr_at-b.ensures.ty c.if-not-same_names.ensures c.if-a-b.false c.if-not-match_types.ensures ∙ c.loop-left.invariant.0 in
+    let e = c.attr_at-a.ensures.next in
+    let f = c.attr_at-b.ensures.next in (
       ap₂ (left c.args.rule (decode c.args.height c.args.store.now c.args.work.now) c.args.stored c.args.other c.args.store.now c.args.work.now (c.loop-left.left - 1)) e f ∙ k,
       subst (GoodFrom (Good c.args.height c.args.store.now c.args.work.now 0 (length c.args.work.now)) c.args.stored c.args.store.now c.args.work.now (length c.args.work.now) (c.loop-left.left - 1)) (sym e) x.2,
       subst (GoodFrom (Good c.args.height c.args.store.now c.args.work.now 0 (length c.args.work.now)) c.args.other c.args.store.now c.args.work.now (length c.args.work.now) (c.loop-left.left - 1)) (sym f) y.2,
     )
 
-pub match-types-match-kind-requires : goal.match-types-match-kind-requires
-match-types-match-kind-requires t c =
+pub match_types-match_kind-requires : goal.match_types-match_kind-requires
+match_types-match_kind-requires t c =
     let e = under c.args.height c.if-height-eq0.false in
     (omega arith, (subst (λ h. Good h c.args.store.now c.args.work.now 0 (length c.args.work.now) c.args.v) e c.requires.left, subst (λ h. Good h c.args.store.now c.args.work.now 0 (length c.args.work.now) c.args.u) e c.requires.right))
 
-pub match-types-returns : goal.match-types-returns
-match-types-returns t c =
+pub match_types-returns : goal.match_types-returns
+match_types-returns t c =
     let e = under c.args.height c.if-height-eq0.false in
-    c.match-kind.ensures ∙ ap (λ h. match_type c.args.rule (decode h c.args.store.now c.args.work.now c.args.v) (decode h c.args.store.now c.args.work.now c.args.u)) (sym e)
+    c.match_kind.ensures ∙ ap (λ h. match_type c.args.rule (decode h c.args.store.now c.args.work.now c.args.v) (decode h c.args.store.now c.args.work.now c.args.u)) (sym e)
