@@ -32,8 +32,8 @@ pub(crate) fn eight(bytes: &[u8], at: usize) -> u64
 
 // The bytes from `from` on, `long` of them.
 fn run(bytes: &[u8], from: usize, long: usize, rows: &mut [u64], to: usize)
-    requires long_in_bounds { from + long ≤ length bytes.now }
-    requires long_in_bounds_2 { to + long ≤ length rows.old }
+    requires inside { from + long ≤ length bytes.now }
+    requires room { to + long ≤ length rows.old }
     ensures { rows.new ≡ written rows.old to (take long (drop from bytes.now)) }
 {
     for i in 0..long {
@@ -43,8 +43,8 @@ fn run(bytes: &[u8], from: usize, long: usize, rows: &mut [u64], to: usize)
 
 // One byte, as it is.
 pub(crate) fn byte(bytes: &[u8], at: usize, rows: &mut [u64], to: usize) -> Copied
-    requires at_in_bounds { at < length bytes.now }
-    requires to_in_bounds { to < length rows.old }
+    requires inside { at < length bytes.now }
+    requires room { to < length rows.old }
     ensures writes { rows.new ≡ written rows.old to (slice_index bytes.now at ∷ []) }
     ensures ends { result.end ≡ at + 1 }
     ensures goes { result.to ≡ to + 1 }

@@ -11,7 +11,7 @@ eight-long-requires c = text-long c.args.bytes.now c.args.at _ _ c.requires.insi
 pub run-requires : goal.run-requires
 run-requires c =
     let w = text-there c.args.bytes.now c.args.at _ _ _ c.eight-long.ensures c.requires.inside c.requires.room.is in
-    (w.ends, omega (arith, w.long, c.requires.room.fits))
+    record { inside = w.ends; room = omega (arith, w.long, c.requires.room.fits) }
 
 pub overflow_add-result-2 : goal.overflow_add-result-2
 overflow_add-result-2 c = omega (arith, text-there c.args.bytes.now c.args.at _ _ _ c.eight-long.ensures c.requires.inside c.requires.room.is)

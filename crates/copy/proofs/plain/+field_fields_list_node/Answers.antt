@@ -31,7 +31,7 @@ module _ (r : Reader) (bs : Bytes) (at to : ℕ) where
 pub field-byte-requires : goal.field-byte-requires
 field-byte-requires t c =
     let room = room-is (read_node c.args.height) c.args.bytes.now c.args.at c.args.to _ _ _ c.in-Small.is c.requires.room in
-    ((Pieces.small-there _ c.args.bytes.now c.args.at _ _ room.is).0, omega (arith, room.fits))
+    record { inside = (Pieces.small-there _ c.args.bytes.now c.args.at _ _ room.is).0; room = omega (arith, room.fits) }
 
 pub field-word-requires : goal.field-word-requires
 field-word-requires t c = record { inside = c.requires.inside; room = room-is (read_node c.args.height) c.args.bytes.now c.args.at c.args.to _ _ _ c.in-Word.is c.requires.room }

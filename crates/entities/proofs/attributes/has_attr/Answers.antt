@@ -10,36 +10,36 @@ use Rattle.entities.proofs.Asked.{is-there, Reached, reached-record, reached-ent
 use Rattle.entities.proofs.attributes.has_attr.Goals as goal
 use Rattle.entities.proofs.attributes.has_attr.Goals.{in-Entity+in-Some, in-Record}
 
-pub look-up-requires : goal.look-up-requires
-look-up-requires c =
+pub look_up-requires : goal.look_up-requires
+look_up-requires c =
     let m : List ℕ = c.args.store.now ++ c.args.work.now in
     record { small = c.requires.small; all = c.requires.all; asked = c.requires.asked; name = uid-in c.args.height m c.in-Entity.u (subst (Good c.args.height m) c.in-Entity.is c.requires.good) }
 
-pub returns-in-default-look-up : goal.returns-in-default-look-up
-returns-in-default-look-up c a S =
+pub returns-in_default-look_up : goal.returns-in_default-look_up
+returns-in_default-look_up c a S =
     let m : List ℕ = c.args.store.now ++ c.args.work.now in
     let t : Text = text_at m c.args.name in
     let es : s.Entities = entities_at c.args.store.now c.args.entities in
     says-bool c.args.height m c.args.v false (has_attr_of a t es) S.good
-    (no-entity-has c.args.height c.args.store.now c.args.work.now c.in-Entity.u es a t c.in-default-look-up.ensures (subst (λ v. Stands c.args.height m v a) c.in-Entity.is S))
+    (no-entity-has c.args.height c.args.store.now c.args.work.now c.in-Entity.u es a t c.in_default-look_up.ensures (subst (λ v. Stands c.args.height m v a) c.in-Entity.is S))
 
-pub attrs-of-requires : goal.attrs-of-requires
-attrs-of-requires c = record { small = c.requires.small; entity = entity-in-on c.args.store.now c.args.work.now c.in-Some.row c.in-Some.ensures.1 }
+pub attrs_of-requires : goal.attrs_of-requires
+attrs_of-requires c = record { small = c.requires.small; entity = entity-in-on c.args.store.now c.args.work.now c.in-Some.row c.in-Some.ensures.1 }
 
-pub stored-attribute-found-requires : goal.stored-attribute-found-requires
-stored-attribute-found-requires c =
+pub stored_attribute-found-requires : goal.stored_attribute-found-requires
+stored_attribute-found-requires c =
     let m : List ℕ = c.args.store.now ++ c.args.work.now in
     record {
       small = c.requires.small;
       tall = c.requires.tall;
-      whole = subst (RecordAt m) (sym c.attrs-of.ensures) (entity-in-on c.args.store.now c.args.work.now c.in-Some.row c.in-Some.ensures.1).attrs;
+      whole = subst (RecordAt m) (sym c.attrs_of.ensures) (entity-in-on c.args.store.now c.args.work.now c.in-Some.row c.in-Some.ensures.1).attrs;
       text = c.requires.text;
     }
 
-pub returns-in-default : goal.returns-in-default
-returns-in-default c a S =
+pub returns-in_default : goal.returns-in_default
+returns-in_default c a S =
     let m : List ℕ = c.args.store.now ++ c.args.work.now in
-    rest_has c.args.height m c.args.v a (text_at m c.args.name) (entities_at c.args.store.now c.args.entities) c.in-default.not-Entity c.in-default.not-Record S
+    rest_has c.args.height m c.args.v a (text_at m c.args.name) (entities_at c.args.store.now c.args.entities) c.in_default.not-Entity c.in_default.not-Record S
 
 pub returns : goal.returns
 returns c a S =
@@ -49,10 +49,10 @@ returns c a S =
     let es : s.Entities = entities_at c.args.store.now c.args.entities in
     let R : Reached h m a t es c.match-v.found = elim c.match-v.branch [
       | in-Entity+in-Some w ↦
-          subst (Reached h m a t es) (sym w.found-is) (reached-entity h c.args.store.now c.args.work.now w.in-Entity.u es w.in-Some.row w.attrs-of.result a t w.stored-attribute-found.result
-          w.in-Some.ensures.0 w.in-Some.ensures.1 w.attrs-of.ensures (subst (λ v. Stands h m v a) w.in-Entity.is S) w.stored-attribute-found.ensures)
+          subst (Reached h m a t es) (sym w.found-is) (reached-entity h c.args.store.now c.args.work.now w.in-Entity.u es w.in-Some.row w.attrs_of.result a t w.stored_attribute-found.result
+          w.in-Some.ensures.0 w.in-Some.ensures.1 w.attrs_of.ensures (subst (λ v. Stands h m v a) w.in-Entity.is S) w.stored_attribute-found.ensures)
       | in-Record w ↦
           subst (Reached h m a t es) (sym w.found-is) (reached-record h m w.in-Record.p a t es w.attribute-found.result (subst (λ v. Stands h m v a) w.in-Record.is S) w.attribute-found.ensures)
     ] in
-    says-bool h m c.args.v c.is-some.result (has_attr_of a t es) S.good
-    (R.has ∙ ap (λ b. ok (of_bool b)) (is-there h m R.what c.match-v.found R.found ∙ sym c.is-some.ensures))
+    says-bool h m c.args.v c.is_some.result (has_attr_of a t es) S.good
+    (R.has ∙ ap (λ b. ok (of_bool b)) (is-there h m R.what c.match-v.found R.found ∙ sym c.is_some.ensures))

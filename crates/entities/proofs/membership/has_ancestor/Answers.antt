@@ -17,32 +17,32 @@ whole m f row at n e g h =
 pub loop-init : goal.loop-init
 loop-init c =
     let m : List ℕ = c.args.store.now ++ c.args.work.now in
-    whole m (same_uid (uid_at m c.args.v)) c.args.row c.ancestors-of-at.result c.word-n.result c.ancestors-of-at.ensures c.word-n.ensures c.requires.entity.ancestors
+    whole m (same_uid (uid_at m c.args.v)) c.args.row c.ancestors_of-at.result c.word-n.result c.ancestors_of-at.ensures c.word-n.ensures c.requires.entity.ancestors
 
-pub same-uids-requires : goal.same-uids-requires
-same-uids-requires c =
+pub same_uids-requires : goal.same_uids-requires
+same_uids-requires c =
     let m : List ℕ = c.args.store.now ++ c.args.work.now in
     let f : EntityUID → Bool = same_uid (uid_at m c.args.v) in
     record { small = c.requires.small; left = c.requires.name; right = left-name m f (any f (ancestors_at m c.args.row)) c.loop.p c.word-n.result c.loop.counter c.loop.invariant (omega arith) }
 
-pub behind-uid-p-requires : goal.behind-uid-p-requires
-behind-uid-p-requires c =
+pub behind_uid-p-requires : goal.behind_uid-p-requires
+behind_uid-p-requires c =
     let m : List ℕ = c.args.store.now ++ c.args.work.now in
     let f : EntityUID → Bool = same_uid (uid_at m c.args.v) in
     record { small = c.requires.small; name = left-name m f (any f (ancestors_at m c.args.row)) c.loop.p c.word-n.result c.loop.counter c.loop.invariant (omega arith) }
 
-pub returns-then-same-uids : goal.returns-then-same-uids
-returns-then-same-uids c =
+pub returns-then-same_uids : goal.returns-then-same_uids
+returns-then-same_uids c =
     let m : List ℕ = c.args.store.now ++ c.args.work.now in
     let f : EntityUID → Bool = same_uid (uid_at m c.args.v) in
-    left-found m f (any f (ancestors_at m c.args.row)) c.loop.p c.word-n.result c.loop.counter c.loop.invariant (omega arith) c.if-same-uids.ensures
+    left-found m f (any f (ancestors_at m c.args.row)) c.loop.p c.word-n.result c.loop.counter c.loop.invariant (omega arith) c.if-same_uids.ensures
 
 pub loop-preserved : goal.loop-preserved
 loop-preserved c =
     let m : List ℕ = c.args.store.now ++ c.args.work.now in
     let f : EntityUID → Bool = same_uid (uid_at m c.args.v) in
-    left-next m f (any f (ancestors_at m c.args.row)) c.loop.p c.word-n.result c.loop.counter c.loop.invariant (omega arith) c.if-same-uids.ensures c.behind-uid-p.result
-    c.behind-uid-p.ensures
+    left-next m f (any f (ancestors_at m c.args.row)) c.loop.p c.word-n.result c.loop.counter c.loop.invariant (omega arith) c.if-same_uids.ensures c.behind_uid-p.result
+    c.behind_uid-p.ensures
 
 pub returns : goal.returns
 returns c =

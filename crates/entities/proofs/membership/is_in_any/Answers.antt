@@ -8,31 +8,31 @@ use Rattle.entities.proofs.Ancestry.{Rest, rest_all, rest-next, rest-wrong, rest
 use Rattle.entities.proofs.membership.is_in_any.Goals as goal
 use Rattle.entities.proofs.membership.is_in_any.Goals.{then-not-found, else-not-found}
 
-pub count-of-n-requires : goal.count-of-n-requires
-count-of-n-requires c =
+pub count_of-n-requires : goal.count_of-n-requires
+count_of-n-requires c =
     let m : List ℕ = c.args.store.now ++ c.args.work.now in
     record { fits = omega (arith, (set-in m c.args.height c.args.p c.requires.whole).fits); small = c.requires.small }
 
 pub loop-i-init : goal.loop-i-init
 loop-i-init c = rest_all (c.args.store.now ++ c.args.work.now) c.args.u c.args.row c.args.height c.args.p c.requires.whole
 
-pub element-of-requires : goal.element-of-requires
-element-of-requires c =
+pub element_of-requires : goal.element_of-requires
+element_of-requires c =
     let m : List ℕ = c.args.store.now ++ c.args.work.now in
     let g = set-in m c.args.height c.args.p c.requires.whole in
-    let l : c.loop-i.i < count m c.args.p = omega (arith, c.count-of-n.ensures) in
+    let l : c.loop-i.i < count m c.args.p = omega (arith, c.count_of-n.ensures) in
     record { small = c.requires.small; fits = g.fits; under = l; lies = lies_in c.args.height m (element_at m c.args.p c.loop-i.i) c.requires.small (g.each c.loop-i.i l) }
 
-pub returns-in-default : goal.returns-in-default
-returns-in-default c =
+pub returns-in_default : goal.returns-in_default
+returns-in_default c =
     let m : List ℕ = c.args.store.now ++ c.args.work.now in
-    rest-wrong m c.args.u c.args.row c.args.height c.args.p c.requires.whole c.loop-i.found c.loop-i.i c.element-of.result (omega (arith, c.count-of-n.ensures))
-    c.element-of.ensures c.in-default.not-Entity c.loop-i.invariant
+    rest-wrong m c.args.u c.args.row c.args.height c.args.p c.requires.whole c.loop-i.found c.loop-i.i c.element_of.result (omega (arith, c.count_of-n.ensures))
+    c.element_of.ensures c.in_default.not-Entity c.loop-i.invariant
 
-pub is-in-found-requires : goal.is-in-found-requires
-is-in-found-requires c =
+pub is_in-found-requires : goal.is_in-found-requires
+is_in-found-requires c =
     let m : List ℕ = c.args.store.now ++ c.args.work.now in
-    let l : c.loop-i.i < count m c.args.p = omega (arith, c.count-of-n.ensures) in
+    let l : c.loop-i.i < count m c.args.p = omega (arith, c.count_of-n.ensures) in
     record {
       small = c.requires.small;
       left = c.requires.left;
@@ -45,13 +45,13 @@ loop-i-preserved c =
     let m : List ℕ = c.args.store.now ++ c.args.work.now in
     let x : Bool = in_row m c.args.u c.args.row (uid_at m c.in-Entity.v) in
     let e : (c.loop-i.found || x) ≡ c.if-not-found.found = elim c.if-not-found.branch [
-      | then-not-found w ↦ ap (λ b. b || x) w.if-not-found.true ∙ sym (w.found-is ∙ w.is-in-found.ensures)
+      | then-not-found w ↦ ap (λ b. b || x) w.if-not-found.true ∙ sym (w.found-is ∙ w.is_in-found.ensures)
       | else-not-found w ↦ ap (λ b. b || x) w.if-not-found.false ∙ sym (w.found-is ∙ w.if-not-found.false)
     ] in
     subst (λ b. Rest m c.args.u c.args.row c.args.height c.args.p b (c.loop-i.i + 1)) e
-    (rest-next m c.args.u c.args.row c.args.height c.args.p c.requires.whole c.loop-i.found c.loop-i.i c.in-Entity.v (omega (arith, c.count-of-n.ensures)) c.in-Entity.ensures c.loop-i.invariant)
+    (rest-next m c.args.u c.args.row c.args.height c.args.p c.requires.whole c.loop-i.found c.loop-i.i c.in-Entity.v (omega (arith, c.count_of-n.ensures)) c.in-Entity.ensures c.loop-i.invariant)
 
 pub returns : goal.returns
 returns c =
     let m : List ℕ = c.args.store.now ++ c.args.work.now in
-    rest-none m c.args.u c.args.row c.args.height c.args.p c.loop-i.found c.loop-i.i (omega (arith, c.count-of-n.ensures, c.loop-i.auto.i-end)) c.loop-i.invariant
+    rest-none m c.args.u c.args.row c.args.height c.args.p c.loop-i.found c.loop-i.i (omega (arith, c.count_of-n.ensures, c.loop-i.auto.i-end)) c.loop-i.invariant

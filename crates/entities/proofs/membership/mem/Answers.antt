@@ -15,36 +15,36 @@ use Rattle.entities.proofs.membership.mem.Goals as goal
 first : (h : ℕ) (m : List ℕ) (u : ℕ) (a b : s.Value) (es : s.Entities) → Stands h m (Entity u) a → apply2 mem a b es ≡ in_value (uid_at m u) b es
 first h m u a b es S = ap (λ x. x >>= (λ u. in_value u b es)) (is-entity h m u a S)
 
-pub returns-in-default : goal.returns-in-default
-returns-in-default c a b S T =
+pub returns-in_default : goal.returns-in_default
+returns-in_default c a b S T =
     let m : List ℕ = c.args.store.now ++ c.args.work.now in
     let es : s.Entities = entities_at c.args.store.now c.args.entities in
-    ap (λ x. x >>= (λ u. in_value u b es)) (no-entity c.args.height m c.args.v a c.in-default.not-Entity S)
+    ap (λ x. x >>= (λ u. in_value u b es)) (no-entity c.args.height m c.args.v a c.in_default.not-Entity S)
 
-pub look-up-row-requires : goal.look-up-row-requires
-look-up-row-requires c =
+pub look_up-row-requires : goal.look_up-row-requires
+look_up-row-requires c =
     let m : List ℕ = c.args.store.now ++ c.args.work.now in
     record { small = c.requires.small; all = c.requires.all; asked = c.requires.asked; name = uid-in c.args.height m c.in-Entity.u (subst (Good c.args.height m) c.in-Entity.is c.requires.left) }
 
-pub is-in-requires : goal.is-in-requires
-is-in-requires c =
+pub is_in-requires : goal.is_in-requires
+is_in-requires c =
     let m : List ℕ = c.args.store.now ++ c.args.work.now in
     let h : ℕ = c.args.height in
     record {
       small = c.requires.small;
       left = uid-in h m c.in-Entity.u (subst (Good h m) c.in-Entity.is c.requires.left);
-      known = row_in c.args.store.now c.args.work.now c.in-Entity.u (entities_at c.args.store.now c.args.entities) c.look-up-row.result c.look-up-row.ensures;
+      known = row_in c.args.store.now c.args.work.now c.in-Entity.u (entities_at c.args.store.now c.args.entities) c.look_up-row.result c.look_up-row.ensures;
       right = uid-in h m c.in-Entity-w.t (subst (Good h m) c.in-Entity-w.is c.requires.right);
     }
 
-pub is-in-any-requires : goal.is-in-any-requires
-is-in-any-requires c =
+pub is_in_any-requires : goal.is_in_any-requires
+is_in_any-requires c =
     let m : List ℕ = c.args.store.now ++ c.args.work.now in
     let h : ℕ = c.args.height in
     record {
       small = c.requires.small;
       left = uid-in h m c.in-Entity.u (subst (Good h m) c.in-Entity.is c.requires.left);
-      known = row_in c.args.store.now c.args.work.now c.in-Entity.u (entities_at c.args.store.now c.args.entities) c.look-up-row.result c.look-up-row.ensures;
+      known = row_in c.args.store.now c.args.work.now c.in-Entity.u (entities_at c.args.store.now c.args.entities) c.look_up-row.result c.look_up-row.ensures;
       whole = subst (Good h m) c.in-Set.is c.requires.right;
     }
 
@@ -54,9 +54,9 @@ returns-in-Entity-w c a b S T =
     let h : ℕ = c.args.height in
     let es : s.Entities = entities_at c.args.store.now c.args.entities in
     let u : EntityUID = uid_at m c.in-Entity.u in
-    says-bool h m c.args.v c.is-in.result (apply2 mem a b es) S.good
+    says-bool h m c.args.v c.is_in.result (apply2 mem a b es) S.good
     (first h m c.in-Entity.u a b es (subst (λ v. Stands h m v a) c.in-Entity.is S) ∙ in-entity u es h m c.in-Entity-w.t b (subst (λ w. Stands h m w b) c.in-Entity-w.is T)
-    ∙ ap (λ x. ok (of_bool x)) (sym (c.is-in.ensures ∙ in-row c.args.store.now c.args.work.now c.in-Entity.u es c.look-up-row.result c.look-up-row.ensures (uid_at m c.in-Entity-w.t))))
+    ∙ ap (λ x. ok (of_bool x)) (sym (c.is_in.ensures ∙ in-row c.args.store.now c.args.work.now c.in-Entity.u es c.look_up-row.result c.look_up-row.ensures (uid_at m c.in-Entity-w.t))))
 
 pub returns-in-Ok : goal.returns-in-Ok
 returns-in-Ok c a b S T =
@@ -66,7 +66,7 @@ returns-in-Ok c a b S T =
     let u : EntityUID = uid_at m c.in-Entity.u in
     says-bool h m c.args.v c.in-Ok.b (apply2 mem a b es) S.good
     (first h m c.in-Entity.u a b es (subst (λ v. Stands h m v a) c.in-Entity.is S) ∙ in-set u es h m c.in-Set.p b (subst (λ w. Stands h m w b) c.in-Set.is T)
-    ∙ in-values c.args.store.now c.args.work.now c.in-Entity.u es c.look-up-row.result c.look-up-row.ensures (elements_of (decode h m (Set c.in-Set.p))) ∙ c.in-Ok.ensures)
+    ∙ in-values c.args.store.now c.args.work.now c.in-Entity.u es c.look_up-row.result c.look_up-row.ensures (elements_of (decode h m (Set c.in-Set.p))) ∙ c.in-Ok.ensures)
 
 pub returns-in-Err : goal.returns-in-Err
 returns-in-Err c a b S T =
@@ -75,11 +75,11 @@ returns-in-Err c a b S T =
     let es : s.Entities = entities_at c.args.store.now c.args.entities in
     let u : EntityUID = uid_at m c.in-Entity.u in
     first h m c.in-Entity.u a b es (subst (λ v. Stands h m v a) c.in-Entity.is S) ∙ in-set u es h m c.in-Set.p b (subst (λ w. Stands h m w b) c.in-Set.is T)
-    ∙ in-values c.args.store.now c.args.work.now c.in-Entity.u es c.look-up-row.result c.look-up-row.ensures (elements_of (decode h m (Set c.in-Set.p))) ∙ c.in-Err.ensures
+    ∙ in-values c.args.store.now c.args.work.now c.in-Entity.u es c.look_up-row.result c.look_up-row.ensures (elements_of (decode h m (Set c.in-Set.p))) ∙ c.in-Err.ensures
 
-pub returns-in-default-w : goal.returns-in-default-w
-returns-in-default-w c a b S T =
+pub returns-in_default-w : goal.returns-in_default-w
+returns-in_default-w c a b S T =
     let m : List ℕ = c.args.store.now ++ c.args.work.now in
     let h : ℕ = c.args.height in
     let es : s.Entities = entities_at c.args.store.now c.args.entities in
-    first h m c.in-Entity.u a b es (subst (λ v. Stands h m v a) c.in-Entity.is S) ∙ in_rest (uid_at m c.in-Entity.u) es h m c.args.w b c.in-default-w.not-Entity c.in-default-w.not-Set T
+    first h m c.in-Entity.u a b es (subst (λ v. Stands h m v a) c.in-Entity.is S) ∙ in_rest (uid_at m c.in-Entity.u) es h m c.args.w b c.in_default-w.not-Entity c.in_default-w.not-Set T

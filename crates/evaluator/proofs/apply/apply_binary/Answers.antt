@@ -23,7 +23,7 @@ pub returns-in-Less : goal.returns-in-Less
 returns-in-Less c = by-op c.args.height (c.args.store.now ++ c.args.work.now) (entities_at c.args.store.now c.args.env.entities) c.args.v c.args.w c.less.result c.args.op BinaryOp.Less c.in-Less.is (λ a b s t. c.less.ensures c.args.height (c.args.store.now ++ c.args.work.now) a b (entities_at c.args.store.now c.args.env.entities) s t)
 
 pub returns-in-LessEq : goal.returns-in-LessEq
-returns-in-LessEq c = by-op c.args.height (c.args.store.now ++ c.args.work.now) (entities_at c.args.store.now c.args.env.entities) c.args.v c.args.w c.less-eq.result c.args.op BinaryOp.LessEq c.in-LessEq.is (λ a b s t. c.less-eq.ensures c.args.height (c.args.store.now ++ c.args.work.now) a b (entities_at c.args.store.now c.args.env.entities) s t)
+returns-in-LessEq c = by-op c.args.height (c.args.store.now ++ c.args.work.now) (entities_at c.args.store.now c.args.env.entities) c.args.v c.args.w c.less_eq.result c.args.op BinaryOp.LessEq c.in-LessEq.is (λ a b s t. c.less_eq.ensures c.args.height (c.args.store.now ++ c.args.work.now) a b (entities_at c.args.store.now c.args.env.entities) s t)
 
 pub returns-in-Add : goal.returns-in-Add
 returns-in-Add c = by-op c.args.height (c.args.store.now ++ c.args.work.now) (entities_at c.args.store.now c.args.env.entities) c.args.v c.args.w c.add.result c.args.op BinaryOp.Add c.in-Add.is (λ a b s t. c.add.ensures c.args.height (c.args.store.now ++ c.args.work.now) a b (entities_at c.args.store.now c.args.env.entities) s t)
@@ -38,7 +38,7 @@ pub returns-in-Contains : goal.returns-in-Contains
 returns-in-Contains c = by-op c.args.height (c.args.store.now ++ c.args.work.now) (entities_at c.args.store.now c.args.env.entities) c.args.v c.args.w c.contains.result c.args.op BinaryOp.Contains c.in-Contains.is (λ a b s t. c.contains.ensures a b (entities_at c.args.store.now c.args.env.entities) s t)
 
 pub returns-in-ContainsAll : goal.returns-in-ContainsAll
-returns-in-ContainsAll c = by-op c.args.height (c.args.store.now ++ c.args.work.now) (entities_at c.args.store.now c.args.env.entities) c.args.v c.args.w c.contains-all.result c.args.op BinaryOp.ContainsAll c.in-ContainsAll.is (λ a b s t. c.contains-all.ensures a b (entities_at c.args.store.now c.args.env.entities) s t)
+returns-in-ContainsAll c = by-op c.args.height (c.args.store.now ++ c.args.work.now) (entities_at c.args.store.now c.args.env.entities) c.args.v c.args.w c.contains_all.result c.args.op BinaryOp.ContainsAll c.in-ContainsAll.is (λ a b s t. c.contains_all.ensures a b (entities_at c.args.store.now c.args.env.entities) s t)
 
 pub returns-in-ContainsAny : goal.returns-in-ContainsAny
-returns-in-ContainsAny c = by-op c.args.height (c.args.store.now ++ c.args.work.now) (entities_at c.args.store.now c.args.env.entities) c.args.v c.args.w c.contains-any.result c.args.op BinaryOp.ContainsAny c.in-ContainsAny.is (λ a b s t. c.contains-any.ensures a b (entities_at c.args.store.now c.args.env.entities) s t)
+returns-in-ContainsAny c = by-op c.args.height (c.args.store.now ++ c.args.work.now) (entities_at c.args.store.now c.args.env.entities) c.args.v c.args.w c.contains_any.result c.args.op BinaryOp.ContainsAny c.in-ContainsAny.is (λ a b s t. c.contains_any.ensures a b (entities_at c.args.store.now c.args.env.entities) s t)

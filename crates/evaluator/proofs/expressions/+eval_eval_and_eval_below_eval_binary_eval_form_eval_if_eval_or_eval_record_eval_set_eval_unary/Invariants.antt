@@ -9,37 +9,37 @@ use Rattle.evaluator.proofs.expressions.+eval_eval_and_eval_below_eval_binary_ev
 abbrev pub decreases-eval : goal.decreases-eval
 decreases-eval l = 4 * l.height
 
-abbrev pub decreases-eval-and : goal.decreases-eval-and
-decreases-eval-and l = 4 * l.height + 1
+abbrev pub decreases-eval_and : goal.decreases-eval_and
+decreases-eval_and l = 4 * l.height + 1
 
-abbrev pub decreases-eval-below : goal.decreases-eval-below
-decreases-eval-below l = 4 * l.height + 1
+abbrev pub decreases-eval_below : goal.decreases-eval_below
+decreases-eval_below l = 4 * l.height + 1
 
-abbrev pub decreases-eval-binary : goal.decreases-eval-binary
-decreases-eval-binary l = 4 * l.height + 1
+abbrev pub decreases-eval_binary : goal.decreases-eval_binary
+decreases-eval_binary l = 4 * l.height + 1
 
-abbrev pub decreases-eval-form : goal.decreases-eval-form
-decreases-eval-form l = 4 * l.height + 3
+abbrev pub decreases-eval_form : goal.decreases-eval_form
+decreases-eval_form l = 4 * l.height + 3
 
-abbrev pub decreases-eval-if : goal.decreases-eval-if
-decreases-eval-if l = 4 * l.height + 1
+abbrev pub decreases-eval_if : goal.decreases-eval_if
+decreases-eval_if l = 4 * l.height + 1
 
-abbrev pub decreases-eval-or : goal.decreases-eval-or
-decreases-eval-or l = 4 * l.height + 1
+abbrev pub decreases-eval_or : goal.decreases-eval_or
+decreases-eval_or l = 4 * l.height + 1
 
-abbrev pub decreases-eval-record : goal.decreases-eval-record
-decreases-eval-record l = 4 * l.height + 2
+abbrev pub decreases-eval_record : goal.decreases-eval_record
+decreases-eval_record l = 4 * l.height + 2
 
-abbrev pub decreases-eval-set : goal.decreases-eval-set
-decreases-eval-set l = 4 * l.height + 2
+abbrev pub decreases-eval_set : goal.decreases-eval_set
+decreases-eval_set l = 4 * l.height + 2
 
-abbrev pub decreases-eval-unary : goal.decreases-eval-unary
-decreases-eval-unary l = 4 * l.height + 1
+abbrev pub decreases-eval_unary : goal.decreases-eval_unary
+decreases-eval_unary l = 4 * l.height + 1
 
-abbrev pub invariant-eval-set-loop-k : goal.invariant-eval-set-loop-k
-invariant-eval-set-loop-k l =
+abbrev pub invariant-eval_set-loop-k : goal.invariant-eval_set-loop-k
+invariant-eval_set-loop-k l =
     SetSoFar l.store l.height l.first l.n (request_at (up_to l.store l.initial.work l.initial.top) l.env.request) (entities_at l.store l.env.entities) l.initial.work l.initial.top l.limit l.work l.top l.at l.k
 
-abbrev pub invariant-eval-record-loop-k : goal.invariant-eval-record-loop-k
-invariant-eval-record-loop-k l =
+abbrev pub invariant-eval_record-loop-k : goal.invariant-eval_record-loop-k
+invariant-eval_record-loop-k l =
     RecordSoFar l.store l.height l.first l.n (request_at (up_to l.store l.initial.work l.initial.top) l.env.request) (entities_at l.store l.env.entities) l.initial.work l.initial.top l.limit l.work l.top l.name l.k
