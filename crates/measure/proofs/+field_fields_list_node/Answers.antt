@@ -48,40 +48,40 @@ field-returns-in-Part t c =
       inside = (omega arith, c.requires.within, omega arith);
     }
 
-pub field-returns-in-err-byte : goal.field-returns-in-err-byte
-field-returns-in-err-byte t c =
-    let p = err_from_is_err_and c.from-residual.result c.from-residual.ensures.1 in
+pub field-returns-in_err-byte-in-Small : goal.field-returns-in_err-byte-in-Small
+field-returns-in_err-byte-in-Small t c =
+    let p = err_from_is_err_and c.from_residual.result c.from_residual.ensures.1 in
     rw (p.1, p.2) record {
-      reads = by-is c.args.unit (read_node c.args.height) c.args.bytes.now c.args.at _ _ _ c.in-Small.is (Along.same-err (λ _. 0) (λ _. c.args.unit) c.args.at _ _ c.in-err-byte.ensures.reads);
-      inside = c.in-err-byte.ensures.within;
+      reads = by-is c.args.unit (read_node c.args.height) c.args.bytes.now c.args.at _ _ _ c.in-Small.is (Along.same-err (λ _. 0) (λ _. c.args.unit) c.args.at _ _ c.in_err-byte-in-Small.ensures.reads);
+      inside = c.in_err-byte-in-Small.ensures.within;
     }
 
-pub field-returns-in-ok-byte : goal.field-returns-in-ok-byte
-field-returns-in-ok-byte t c =
-    let w = c.in-ok-byte.ensures in
+pub field-returns-in_ok-byte-in-Small : goal.field-returns-in_ok-byte-in-Small
+field-returns-in_ok-byte-in-Small t c =
+    let w = c.in_ok-byte-in-Small.ensures in
     let e = c.with.ensures in
     record {
       reads = by-is c.args.unit (read_node c.args.height) c.args.bytes.now c.args.at _ _ _ c.in-Small.is
-          (before-ok (λ _. 0) (λ _. c.args.unit) c.args.unit c.args.at c.in-ok-byte.byte c.with.result _ (λ x. omega arith) w.reads e.ends e.long);
+          (before-ok (λ _. 0) (λ _. c.args.unit) c.args.unit c.args.at c.in_ok-byte-in-Small.byte c.with.result _ (λ x. omega arith) w.reads e.ends e.long);
       inside = (omega (arith, e.ends, w.within), omega (arith, e.ends, w.within), omega (arith, e.ends, e.long, w.within, c.requires.bit));
     }
 
-pub field-returns-in-err-word : goal.field-returns-in-err-word
-field-returns-in-err-word t c =
-    let p = err_from_is_err_and c.from-residual-in-err-word.result c.from-residual-in-err-word.ensures.1 in
+pub field-returns-in_err-word-in-Word : goal.field-returns-in_err-word-in-Word
+field-returns-in_err-word-in-Word t c =
+    let p = err_from_is_err_and c.from_residual-in_err-word-in-Word.result c.from_residual-in_err-word-in-Word.ensures.1 in
     rw (p.1, p.2) record {
-      reads = by-is c.args.unit (read_node c.args.height) c.args.bytes.now c.args.at _ _ _ c.in-Word.is (Along.same-err (λ _. 0) (λ _. c.args.unit) c.args.at _ _ c.in-err-word.ensures.reads);
-      inside = c.in-err-word.ensures.within;
+      reads = by-is c.args.unit (read_node c.args.height) c.args.bytes.now c.args.at _ _ _ c.in-Word.is (Along.same-err (λ _. 0) (λ _. c.args.unit) c.args.at _ _ c.in_err-word-in-Word.ensures.reads);
+      inside = c.in_err-word-in-Word.ensures.within;
     }
 
-pub field-returns-in-ok-word : goal.field-returns-in-ok-word
-field-returns-in-ok-word t c =
-    let w = c.in-ok-word.ensures in
+pub field-returns-in_ok-word-in-Word : goal.field-returns-in_ok-word-in-Word
+field-returns-in_ok-word-in-Word t c =
+    let w = c.in_ok-word-in-Word.ensures in
     let e = c.with-in-Word.ensures in
-    let z = word_end c.args.at _ c.in-ok-word.word w.reads in
+    let z = word_end c.args.at _ c.in_ok-word-in-Word.word w.reads in
     record {
       reads = by-is c.args.unit (read_node c.args.height) c.args.bytes.now c.args.at _ _ _ c.in-Word.is
-          (before-ok (λ _. 0) (λ _. c.args.unit) c.args.unit c.args.at c.in-ok-word.word c.with-in-Word.result _ (λ x. omega arith) w.reads e.ends e.long);
+          (before-ok (λ _. 0) (λ _. c.args.unit) c.args.unit c.args.at c.in_ok-word-in-Word.word c.with-in-Word.result _ (λ x. omega arith) w.reads e.ends e.long);
       inside = (omega (arith, e.ends, w.within), omega (arith, e.ends, w.within), omega (arith, e.ends, e.long, z, c.requires.bit));
     }
 
@@ -106,7 +106,7 @@ field-returns-in-Node t c =
 pub field-returns-in-List : goal.field-returns-in-List
 field-returns-in-List t c =
     record {
-      reads = by-is c.args.unit (read_node c.args.height) c.args.bytes.now c.args.at _ _ _ c.in-List.is (by-items c.args.unit (read_node c.args.height) c.args.bytes.now c.args.at _ _ _ c.item-fields.ensures.is c.list.ensures.reads);
+      reads = by-is c.args.unit (read_node c.args.height) c.args.bytes.now c.args.at _ _ _ c.in-List.is (by-items c.args.unit (read_node c.args.height) c.args.bytes.now c.args.at _ _ _ c.item_fields.ensures.is c.list.ensures.reads);
       inside = c.list.ensures.inside;
     }
 
@@ -118,21 +118,21 @@ module _ (shape : List CodeField) (i : ℕ) (d : CodeField) (h : i < length shap
   stops_at : (k : ℕ) → Err k ≡ one u r bs e (field_of (get_or shape i d)) → Err k ≡ all
   stops_at k g = left-err u r bs m e (get_or shape i d) (drop (i + 1) shape) k g ∙ ap (λ fs. left u r bs m fs e) (sym (drop_more shape i d h)) ∙ is
 
-pub fields-returns-in-err-part : goal.fields-returns-in-err-part
-fields-returns-in-err-part t c =
-    let p = err_from_is_err_and c.from-residual.result c.from-residual.ensures.1 in
+pub fields-returns-in_err-part : goal.fields-returns-in_err-part
+fields-returns-in_err-part t c =
+    let p = err_from_is_err_and c.from_residual.result c.from_residual.ensures.1 in
     rw (p.1, p.2) record {
-      reads = stops_at c.args.shape.now c.loop-f.f-index _ c.loop-f-test.true c.args.unit (read_node c.args.height) c.args.bytes.now c.loop-f.size c.loop-f.end _ c.loop-f.invariant.3 _ c.in-err-part.ensures.reads;
-      inside = c.in-err-part.ensures.inside;
+      reads = stops_at c.args.shape.now c.loop-f.f-index _ c.loop-f-test.true c.args.unit (read_node c.args.height) c.args.bytes.now c.loop-f.size c.loop-f.end _ c.loop-f.invariant.3 _ c.in_err-part.ensures.reads;
+      inside = c.in_err-part.ensures.inside;
     }
 
 pub fields-loop-f-preserved : goal.fields-loop-f-preserved
 fields-loop-f-preserved t c =
-    let w = c.in-ok-part.ensures.inside in (
+    let w = c.in_ok-part.ensures.inside in (
       omega (arith, w),
       omega (arith, w),
       omega (arith, w),
-      one_more c.args.shape.now c.loop-f.f-index Part c.loop-f-test.true c.args.unit (read_node c.args.height) c.args.bytes.now c.loop-f.size c.loop-f.end _ c.loop-f.invariant.3 c.in-ok-part.part c.in-ok-part.ensures.reads,
+      one_more c.args.shape.now c.loop-f.f-index Part c.loop-f-test.true c.args.unit (read_node c.args.height) c.args.bytes.now c.loop-f.size c.loop-f.end _ c.loop-f.invariant.3 c.in_ok-part.part c.in_ok-part.ensures.reads,
     )
 
 pub fields-returns : goal.fields-returns
@@ -179,23 +179,23 @@ list-returns-then-mark-ne1 t c =
       inside = omega arith;
     }
 
-pub list-returns-in-err-item : goal.list-returns-in-err-item
-list-returns-in-err-item t c =
-    let p = err_from_is_err_and c.from-residual.result c.from-residual.ensures.1 in
+pub list-returns-in_err-item : goal.list-returns-in_err-item
+list-returns-in_err-item t c =
+    let p = err_from_is_err_and c.from_residual.result c.from_residual.ensures.1 in
     rw (p.1, p.2) record {
-      reads = Along.list-one-err (read_fields (read_node c.args.height) (fields_of c.args.shape.now)) c.args.bytes.now c.loop-end.end (length_fields c.args.unit (fields_of c.args.shape.now)) _ c.loop-end-test.true c.if-mark-ne1.false _ c.in-err-item.ensures.reads
+      reads = Along.list-one-err (read_fields (read_node c.args.height) (fields_of c.args.shape.now)) c.args.bytes.now c.loop-end.end (length_fields c.args.unit (fields_of c.args.shape.now)) _ c.loop-end-test.true c.if-mark-ne1.false _ c.in_err-item.ensures.reads
           ∙ c.loop-end.invariant.3;
-      inside = c.in-err-item.ensures.inside;
+      inside = c.in_err-item.ensures.inside;
     }
 
-pub list-overflow-add-size-in-loop-end : goal.list-overflow-add-size-in-loop-end
-list-overflow-add-size-in-loop-end t c = omega (arith, c.in-ok-item.ensures.inside, c.requires.few, c.requires.small, c.loop-end.invariant.2)
+pub list-overflow_add-size-in-loop-end : goal.list-overflow_add-size-in-loop-end
+list-overflow_add-size-in-loop-end t c = omega (arith, c.in_ok-item.ensures.inside, c.requires.few, c.requires.small, c.loop-end.invariant.2)
 
 pub list-loop-end-preserved : goal.list-loop-end-preserved
 list-loop-end-preserved t c =
-    let h = c.in-ok-item.ensures in
+    let h = c.in_ok-item.ensures in
     let fs = fields_of c.args.shape.now in
-    let x : Found = c.in-ok-item.item in
+    let x : Found = c.in_ok-item.item in
     let g : Found = record { end = x.end; size = c.args.slot + x.size } in (
       omega (arith, h.inside),
       omega (arith, h.inside),
@@ -212,23 +212,23 @@ list-returns t c =
 pub node-returns-then-height-eq0 : goal.node-returns-then-height-eq0
 node-returns-then-height-eq0 t c = record { reads = node-low (kind_of c.args.kind) (drop c.args.at c.args.bytes.now) c.args.at c.args.height c.if-height-eq0.true; inside = c.requires.within }
 
-pub node-returns-in-err-opened : goal.node-returns-in-err-opened
-node-returns-in-err-opened t c =
-    let p = err_from_is_err_and c.from-residual.result c.from-residual.ensures.1 in
-    let o = c.in-err-opened.ensures.reads in
-    rw (p.1, p.2) record { reads = node-err (kind_of c.args.kind) c.args.bytes.now c.args.at o.0 c.args.height _ (omega arith) o.1 o.2; inside = c.in-err-opened.ensures.within }
+pub node-returns-in_err-opened : goal.node-returns-in_err-opened
+node-returns-in_err-opened t c =
+    let p = err_from_is_err_and c.from_residual.result c.from_residual.ensures.1 in
+    let o = c.in_err-opened.ensures.reads in
+    rw (p.1, p.2) record { reads = node-err (kind_of c.args.kind) c.args.bytes.now c.args.at o.0 c.args.height _ (omega arith) o.1 o.2; inside = c.in_err-opened.ensures.within }
 
-pub node-returns-in-err-body : goal.node-returns-in-err-body
-node-returns-in-err-body t c =
-    let p = err_from_is_err_and c.from-residual-in-err-body.result c.from-residual-in-err-body.ensures.1 in
-    let e = c.in-err-body.ensures in
+pub node-returns-in_err-body : goal.node-returns-in_err-body
+node-returns-in_err-body t c =
+    let p = err_from_is_err_and c.from_residual-in_err-body.result c.from_residual-in_err-body.ensures.1 in
+    let e = c.in_err-body.ensures in
     rw (p.1, p.2) record {
-      reads = node-stops (kind_of c.args.kind) c.args.bytes.now c.args.at c.args.height c.in-ok-opened.opened (omega arith) c.in-ok-opened.ensures.reads c.unit.result _ e.reads;
+      reads = node-stops (kind_of c.args.kind) c.args.bytes.now c.args.at c.args.height c.in_ok-opened.opened (omega arith) c.in_ok-opened.ensures.reads c.unit.result _ e.reads;
       inside = e.inside;
     }
 
 pub node-with-requires : goal.node-with-requires
-node-with-requires t c = omega (arith, c.in-ok-body.ensures.inside, c.head.ensures.few, c.requires.small)
+node-with-requires t c = omega (arith, c.in_ok-body.ensures.inside, c.head.ensures.few, c.requires.small)
 
 -- the form of a tree takes a byte, if it is written down
 tag_one : {T : Type 0} (xs : List T) (f : T → Bool) (h : ℕ) (bs : Bytes) (g : T) (n : ℕ) → read_tag_of xs f h bs ≡ got g n → n ≡ 1
@@ -258,12 +258,12 @@ head-paid request h bs g n e = omega arith
 pub node-returns : goal.node-returns
 node-returns t c =
     let k = kind_of c.args.kind in
-    let o = c.in-ok-opened.ensures in
-    let b = c.in-ok-body.ensures in
+    let o = c.in_ok-opened.ensures in
+    let b = c.in_ok-body.ensures in
     let e = c.with.ensures in
     let p = head-paid k _ _ o.reads.0 o.reads.1 o.reads.2 in
     record {
-      reads = node_made k c.args.bytes.now c.args.at c.args.height c.in-ok-opened.opened (omega arith) o.reads c.unit.result c.head.result c.in-ok-body.body c.with.result
+      reads = node_made k c.args.bytes.now c.args.at c.args.height c.in_ok-opened.opened (omega arith) o.reads c.unit.result c.head.result c.in_ok-body.body c.with.result
           c.unit.ensures.is c.head.ensures.is b.reads e.ends e.long;
       inside = (omega (arith, e.ends, b.inside, o.within), omega (arith, e.ends, b.inside), omega (arith, e.ends, e.long, b.inside, o.reads.3, p, c.head.ensures.is));
     }

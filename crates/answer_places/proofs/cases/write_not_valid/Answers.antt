@@ -26,13 +26,13 @@ returns-then-out-lt10 c =
 pub bounds-out-end : goal.bounds-out-end
 bounds-out-end c =
     let size = id-long (c.args.store.now ++ c.args.work.now) c.args.id c.requires.there.within in
-    omega (arith, c.word-long.ensures, c.set-text-end.ensures.ends, c.set-text-end.auto.out, length-set c.args.out.now 0 3)
+    omega (arith, c.word-long.ensures, c.set_text-end.ensures.ends, c.set_text-end.auto.out, length-set c.args.out.now 0 3)
 
 pub returns : goal.returns
 returns c =
     let out = c.args.out.now in
-    let new = c.set-text-end.new.out in
-    let end = c.set-text-end.result in
+    let new = c.set_text-end.new.out in
+    let end = c.set_text-end.result in
     let text = encode_text (text_at (c.args.store.now ++ c.args.work.now) c.args.id) in
     let why = validation_error_number (why_of c.args.why) in
     let number = c.number.result in
@@ -40,5 +40,5 @@ returns c =
     wrote-more out (set out 0 3) (set new end number) 0 (3 ∷ []) (text ++ (why ∷ [])) 1 (end + 1)
     (wrote_one out 0 3 3 refl (omega arith))
     (wrote-more (set out 0 3) new (set new end number) 1 text (why ∷ []) end (end + 1)
-    c.set-text-end.ensures
-    (wrote_one new end number why c.number.ensures (omega (arith, c.word-long.ensures, c.set-text-end.ensures.ends, c.set-text-end.auto.out, length-set out 0 3))))
+    c.set_text-end.ensures
+    (wrote_one new end number why c.number.ensures (omega (arith, c.word-long.ensures, c.set_text-end.ensures.ends, c.set_text-end.auto.out, length-set out 0 3))))

@@ -17,7 +17,7 @@ returns c =
     record {
       ends = omega (arith, word-long c.args.place);
       fits = omega arith;
-      holds = c.set-word.ensures
+      holds = c.set_word.ensures
           ∙ ap (λ q. written q 2 place) (written-two out 0 1 0 number (omega arith) (omega arith))
           ∙ written-more out 0 (0 ∷ (number ∷ [])) place 2 (omega arith) (omega arith)
           ∙ ap (λ n. written out 0 (0 ∷ (n ∷ place))) c.number.ensures;

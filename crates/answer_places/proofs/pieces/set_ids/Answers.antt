@@ -17,8 +17,8 @@ bounds-out-at c =
     let next = next-long (c.args.store.now ++ c.args.work.now) c.args.ids c.loop-k.k c.word-id.result c.word-id.ensures c.requires.there c.loop-k-test.true in
     omega (arith, c.loop-k.invariant.0)
 
-pub set-text-at-requires : goal.set-text-at-requires
-set-text-at-requires c =
+pub set_text-at-requires : goal.set_text-at-requires
+set_text-at-requires c =
     let m : List ℕ = c.args.store.now ++ c.args.work.now in
     let next = next-long m c.args.ids c.loop-k.k c.word-id.result c.word-id.ensures c.requires.there c.loop-k-test.true in
     record {
@@ -35,13 +35,13 @@ loop-k-preserved c =
     let id = c.word-id.result in
     let out = c.loop-k.out in
     let at = c.loop-k.at in
-    let new = c.set-text-at.new.out in
-    let end = c.set-text-at.result in
+    let new = c.set_text-at.new.out in
+    let end = c.set_text-at.result in
     let text = encode_text (text_at m id) in
     let next = from_next m ids k id c.word-id.ensures c.requires.there c.loop-k-test.true in
     let size = next-long m ids k id c.word-id.ensures c.requires.there c.loop-k-test.true in
     let room : at + 1 ≤ length out = omega (arith, c.loop-k.invariant.0) in
-    let one : Wrote out at (1 ∷ text) end new = wrote-more out (set out at 1) new at (1 ∷ []) text (at + 1) end (wrote_one out at 1 1 refl room) c.set-text-at.ensures in
+    let one : Wrote out at (1 ∷ text) end new = wrote-more out (set out at 1) new at (1 ∷ []) text (at + 1) end (wrote_one out at 1 1 refl room) c.set_text-at.ensures in
     let own = id-long m id (id-there m ids k id c.word-id.ensures c.requires.there c.loop-k-test.true).within in
     (omega (arith, c.loop-k.invariant.0, one.ends), wrote-left out new at (1 ∷ text) (bytes_from m ids (k + 1)) end one ∙ ap (λ bs. written out at bs) (sym next) ∙ c.loop-k.invariant.1)
 

@@ -10,8 +10,8 @@ use Rattle.answer_places.proofs.Writes.{written_none, written-more, written-push
 use Rattle.answer_places.proofs.Lists.{byte_at, id-long}
 use Rattle.answer_places.proofs.pieces.set_text.Goals as goal
 
-pub overflow-cast-out : goal.overflow-cast-out
-overflow-cast-out c =
+pub overflow_cast-out : goal.overflow_cast-out
+overflow_cast-out c =
     let m : List ℕ = c.args.store.now ++ c.args.work.now in
     let id = c.args.id in
     let i = c.loop-i.i in
@@ -22,7 +22,7 @@ overflow-cast-out c =
     search rules
 
 pub loop-i-init : goal.loop-i-init
-loop-i-init c = sym (written_none c.set-word.new.out (c.args.at + 8))
+loop-i-init c = sym (written_none c.set_word.new.out (c.args.at + 8))
 
 pub loop-i-preserved : goal.loop-i-preserved
 loop-i-preserved c =
@@ -30,13 +30,13 @@ loop-i-preserved c =
     let id = c.args.id in
     let i = c.loop-i.i in
     let text = text_at m id in
-    let start = c.set-word.new.out in
+    let start = c.set_word.new.out in
     let to = c.args.at + 8 in
     let size = long m id c.requires.there.within in
     let within : i < get_or m id 0 = omega (arith, c.word-long.ensures) in
     ap (λ q. set q (to + i) c.word.result) c.loop-i.invariant
     ∙ ap (λ b. set (written start to (take i text)) (to + i) b) (c.word.ensures ∙ sym (byte_at m id i within))
-    ∙ written-push start to (take i text) (to + i) (get_or text i 0) (omega (arith, length-take-le i text (omega arith))) (omega (arith, c.requires.room, c.set-word.auto.out))
+    ∙ written-push start to (take i text) (to + i) (get_or text i 0) (omega (arith, length-take-le i text (omega arith))) (omega (arith, c.requires.room, c.set_word.auto.out))
     ∙ ap (λ q. written start to q) (sym (take_more text i 0 (omega arith)))
 
 pub returns : goal.returns
@@ -53,8 +53,8 @@ returns c =
       ends = omega (arith, id-long m id c.requires.there.within, c.word-long.ensures);
       fits = omega (arith, c.word-long.ensures);
       holds = c.loop-i.invariant
-          ∙ ap (λ q. written c.set-word.new.out to q) (take_all c.loop-i.i text (omega (arith, c.word-long.ensures)))
-          ∙ ap (λ q. written q to text) c.set-word.ensures
+          ∙ ap (λ q. written c.set_word.new.out to q) (take_all c.loop-i.i text (omega (arith, c.word-long.ensures)))
+          ∙ ap (λ q. written q to text) c.set_word.ensures
           ∙ written-more out at (encode_word number) text to (omega (arith, word-long number)) (omega arith)
           ∙ ap (λ n. written out at (encode_word n ++ text)) (c.word-long.ensures ∙ sym size);
     }

@@ -8,5 +8,5 @@ use Rattle.answer_places.proofs.pieces.set_word.Goals as goal
 pub returns : goal.returns
 unfolding encode_word
 returns c =
-    written-part c.args.out.now c.args.at (c.args.at + 8 - c.args.at) c.copy-from-slice.new.self (encode_word c.args.n)
-    (c.copy-from-slice.ensures.after ∙ c.to-be-bytes.ensures) (omega (arith, word-long c.args.n))
+    written-part c.args.out.now c.args.at (c.args.at + 8 - c.args.at) c.copy_from_slice.new.self (encode_word c.args.n)
+    (c.copy_from_slice.ensures.after ∙ c.to_be_bytes.ensures) (omega (arith, word-long c.args.n))

@@ -17,29 +17,29 @@ loop-init c =
     let m : List ℕ = c.args.store.now ++ c.args.work.now in
     whole m (in_row m c.args.subject.uid c.args.subject.row) c.args.first c.args.n c.requires.names
 
-pub is-in-requires : goal.is-in-requires
-is-in-requires c =
+pub is_in-requires : goal.is_in-requires
+is_in-requires c =
     let m : List ℕ = c.args.store.now ++ c.args.work.now in
     let f : EntityUID → Bool = in_row m c.args.subject.uid c.args.subject.row in
     record { small = c.requires.small; left = c.requires.name; known = c.requires.known; right = left-name m f (any f (uids_at m c.args.first c.args.n)) c.loop.p c.args.n c.loop.counter c.loop.invariant (omega arith) }
 
-pub behind-uid-p-requires : goal.behind-uid-p-requires
-behind-uid-p-requires c =
+pub behind_uid-p-requires : goal.behind_uid-p-requires
+behind_uid-p-requires c =
     let m : List ℕ = c.args.store.now ++ c.args.work.now in
     let f : EntityUID → Bool = in_row m c.args.subject.uid c.args.subject.row in
     record { small = c.requires.small; name = left-name m f (any f (uids_at m c.args.first c.args.n)) c.loop.p c.args.n c.loop.counter c.loop.invariant (omega arith) }
 
-pub returns-then-is-in : goal.returns-then-is-in
-returns-then-is-in c =
+pub returns-then-is_in : goal.returns-then-is_in
+returns-then-is_in c =
     let m : List ℕ = c.args.store.now ++ c.args.work.now in
     let f : EntityUID → Bool = in_row m c.args.subject.uid c.args.subject.row in
-    left-found m f (any f (uids_at m c.args.first c.args.n)) c.loop.p c.args.n c.loop.counter c.loop.invariant (omega arith) c.if-is-in.ensures
+    left-found m f (any f (uids_at m c.args.first c.args.n)) c.loop.p c.args.n c.loop.counter c.loop.invariant (omega arith) c.if-is_in.ensures
 
 pub loop-preserved : goal.loop-preserved
 loop-preserved c =
     let m : List ℕ = c.args.store.now ++ c.args.work.now in
     let f : EntityUID → Bool = in_row m c.args.subject.uid c.args.subject.row in
-    left-next m f (any f (uids_at m c.args.first c.args.n)) c.loop.p c.args.n c.loop.counter c.loop.invariant (omega arith) c.if-is-in.ensures c.behind-uid-p.result c.behind-uid-p.ensures
+    left-next m f (any f (uids_at m c.args.first c.args.n)) c.loop.p c.args.n c.loop.counter c.loop.invariant (omega arith) c.if-is_in.ensures c.behind_uid-p.result c.behind_uid-p.ensures
 
 pub returns : goal.returns
 returns c =

@@ -10,8 +10,8 @@ use Rattle.schema_rows.proofs.Steps.{any-places}
 use Rattle.schema_rows.proofs.Places.{any-first}
 use Rattle.schema_rows.proofs.schemas.descendant_of.Goals as goal
 
-pub any-in-requires : goal.any-in-requires
-any-in-requires c =
+pub any_in-requires : goal.any_in-requires
+any_in-requires c =
     let x = c.in-Some.ensures in
     record { test = c.requires.second; list = subst (TextsIn c.args.store.now) (sym x.0.ancestors) x.1.ancestors }
 
@@ -21,24 +21,24 @@ returns-in-Some c =
     let a = c.in-Some.entry.ancestors in
     let t = text_at c.args.store.now c.args.t in
     let u = text_at c.args.store.now c.args.u in
-    c.any-in.ensures
+    c.any_in.ensures
     ∙ any-places (same u) (text_at c.args.store.now) (behind_text c.args.store.now) (get_or c.args.store.now a 0) (a + 1)
     ∙ ap (λ k. any (same u) (list_at (text_at c.args.store.now) (behind_text c.args.store.now) c.args.store.now k)) x.0.ancestors
     ∙ sym (ap (λ o. ancestor_types o t u (schema_of c.args.store.now c.args.schema)) x.2)
-    ∙ ap (λ b. b || ancestor_types (find_entity_type t (schema_of c.args.store.now c.args.schema)) t u (schema_of c.args.store.now c.args.schema)) c.if-same-names.ensures
+    ∙ ap (λ b. b || ancestor_types (find_entity_type t (schema_of c.args.store.now c.args.schema)) t u (schema_of c.args.store.now c.args.schema)) c.if-same_names.ensures
 
-pub returns-in-Some-first-action : goal.returns-in-Some-first-action
-returns-in-Some-first-action c =
+pub returns-in-Some-first_action : goal.returns-in-Some-first_action
+returns-in-Some-first_action c =
     let t = text_at c.args.store.now c.args.t in
     let u = text_at c.args.store.now c.args.u in
-    sym (any-first (seeks c.args.store.now (Below c.args.t c.args.u)) (schema_of c.args.store.now c.args.schema).acts ∙ ap is_some c.in-Some-first-action.ensures.2)
-    ∙ sym (ap (λ o. ancestor_types o t u (schema_of c.args.store.now c.args.schema)) c.in-default.ensures)
-    ∙ ap (λ b. b || ancestor_types (find_entity_type t (schema_of c.args.store.now c.args.schema)) t u (schema_of c.args.store.now c.args.schema)) c.if-same-names.ensures
+    sym (any-first (seeks c.args.store.now (Below c.args.t c.args.u)) (schema_of c.args.store.now c.args.schema).acts ∙ ap is_some c.in-Some-first_action.ensures.2)
+    ∙ sym (ap (λ o. ancestor_types o t u (schema_of c.args.store.now c.args.schema)) c.in_default.ensures)
+    ∙ ap (λ b. b || ancestor_types (find_entity_type t (schema_of c.args.store.now c.args.schema)) t u (schema_of c.args.store.now c.args.schema)) c.if-same_names.ensures
 
 pub returns-in-None : goal.returns-in-None
 returns-in-None c =
     let t = text_at c.args.store.now c.args.t in
     let u = text_at c.args.store.now c.args.u in
     sym (any-first (seeks c.args.store.now (Below c.args.t c.args.u)) (schema_of c.args.store.now c.args.schema).acts ∙ ap is_some c.in-None.ensures)
-    ∙ sym (ap (λ o. ancestor_types o t u (schema_of c.args.store.now c.args.schema)) c.in-default.ensures)
-    ∙ ap (λ b. b || ancestor_types (find_entity_type t (schema_of c.args.store.now c.args.schema)) t u (schema_of c.args.store.now c.args.schema)) c.if-same-names.ensures
+    ∙ sym (ap (λ o. ancestor_types o t u (schema_of c.args.store.now c.args.schema)) c.in_default.ensures)
+    ∙ ap (λ b. b || ancestor_types (find_entity_type t (schema_of c.args.store.now c.args.schema)) t u (schema_of c.args.store.now c.args.schema)) c.if-same_names.ensures

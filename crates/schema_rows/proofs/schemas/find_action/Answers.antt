@@ -7,4 +7,4 @@ use Rattle.schema_rows.proofs.Places.{find_first}
 use Rattle.schema_rows.proofs.schemas.find_action.Goals as goal
 
 pub returns : goal.returns
-returns c = subst (ActionFound c.args.store.now c.first-action.result) (sym (find_first action_key (code_uid (uid_at c.args.store.now c.args.uid)) (schema_of c.args.store.now c.args.schema).acts)) c.first-action.ensures
+returns c = subst (ActionFound c.args.store.now c.first_action.result) (sym (find_first action_key (code_uid (uid_at c.args.store.now c.args.uid)) (schema_of c.args.store.now c.args.schema).acts)) c.first_action.ensures

@@ -7,21 +7,21 @@ use Rattle.schema_rows.proofs.Steps.{all_here, all-next, list-none}
 use Rattle.schema_rows.proofs.Places.{find_first, first-here, first_on, entry_found}
 use Rattle.schema_rows.proofs.schemas.find_entity_type.Goals as goal
 
-pub entry-at-entry-requires : goal.entry-at-entry-requires
-entry-at-entry-requires c = all_here (EntryIn c.args.store.now) (behind_entry c.args.store.now) c.loop-left.left c.loop-left.e c.loop-left-test.true c.loop-left.invariant.1
+pub entry_at-entry-requires : goal.entry_at-entry-requires
+entry_at-entry-requires c = all_here (EntryIn c.args.store.now) (behind_entry c.args.store.now) c.loop-left.left c.loop-left.e c.loop-left-test.true c.loop-left.invariant.1
 
-pub same-names-requires : goal.same-names-requires
-same-names-requires c = record { left = c.requires.name; right = (all_here (EntryIn c.args.store.now) (behind_entry c.args.store.now) c.loop-left.left c.loop-left.e c.loop-left-test.true c.loop-left.invariant.1).name }
+pub same_names-requires : goal.same_names-requires
+same_names-requires c = record { left = c.requires.name; right = (all_here (EntryIn c.args.store.now) (behind_entry c.args.store.now) c.loop-left.left c.loop-left.e c.loop-left-test.true c.loop-left.invariant.1).name }
 
-pub returns-then-same-names : goal.returns-then-same-names
-returns-then-same-names c =
-    entry_found c.args.store.now c.loop-left.e c.entry-at-entry.result _ c.entry-at-entry.ensures (all_here (EntryIn c.args.store.now) (behind_entry c.args.store.now) c.loop-left.left c.loop-left.e c.loop-left-test.true c.loop-left.invariant.1)
-    (find_first entity_type_key (text_at c.args.store.now c.args.name) (entries_at c.args.store.now c.args.schema.entries) ∙ sym c.loop-left.invariant.0 ∙ first-here (λ d. same (text_at c.args.store.now c.args.name) (entity_type_key d)) (entry_at c.args.store.now) (behind_entry c.args.store.now) c.loop-left.left c.loop-left.e c.loop-left-test.true c.if-same-names.ensures)
+pub returns-then-same_names : goal.returns-then-same_names
+returns-then-same_names c =
+    entry_found c.args.store.now c.loop-left.e c.entry_at-entry.result _ c.entry_at-entry.ensures (all_here (EntryIn c.args.store.now) (behind_entry c.args.store.now) c.loop-left.left c.loop-left.e c.loop-left-test.true c.loop-left.invariant.1)
+    (find_first entity_type_key (text_at c.args.store.now c.args.name) (entries_at c.args.store.now c.args.schema.entries) ∙ sym c.loop-left.invariant.0 ∙ first-here (λ d. same (text_at c.args.store.now c.args.name) (entity_type_key d)) (entry_at c.args.store.now) (behind_entry c.args.store.now) c.loop-left.left c.loop-left.e c.loop-left-test.true c.if-same_names.ensures)
 
 pub loop-left-preserved : goal.loop-left-preserved
 loop-left-preserved c = (
-  first_on (λ d. same (text_at c.args.store.now c.args.name) (entity_type_key d)) (entry_at c.args.store.now) (behind_entry c.args.store.now) c.loop-left.left c.loop-left.e c.entry-at-entry.result.next c.loop-left-test.true c.entry-at-entry.ensures.next c.if-same-names.ensures ∙ c.loop-left.invariant.0,
-  all-next (EntryIn c.args.store.now) (behind_entry c.args.store.now) c.loop-left.left c.loop-left.e c.entry-at-entry.result.next c.loop-left-test.true c.entry-at-entry.ensures.next c.loop-left.invariant.1,
+  first_on (λ d. same (text_at c.args.store.now c.args.name) (entity_type_key d)) (entry_at c.args.store.now) (behind_entry c.args.store.now) c.loop-left.left c.loop-left.e c.entry_at-entry.result.next c.loop-left-test.true c.entry_at-entry.ensures.next c.if-same_names.ensures ∙ c.loop-left.invariant.0,
+  all-next (EntryIn c.args.store.now) (behind_entry c.args.store.now) c.loop-left.left c.loop-left.e c.entry_at-entry.result.next c.loop-left-test.true c.entry_at-entry.ensures.next c.loop-left.invariant.1,
 )
 
 pub returns : goal.returns
