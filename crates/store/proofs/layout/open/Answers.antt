@@ -30,4 +30,4 @@ opened m capacity a b f =
 
 pub returns : goal.returns
 returns c =
-    subst (λ l. Holds (set (set l 10 0) 11 0) (empty c.args.capacity)) (sym c.write-header.ensures) (opened c.args.store.now c.args.capacity c.requires.least c.requires.limit c.requires.fits)
+    subst (λ l. Holds (set (set l 10 0) 11 0) (empty c.args.capacity)) (sym c.write_header.ensures) (opened c.args.store.now c.args.capacity c.requires.least c.requires.limit c.requires.fits)
