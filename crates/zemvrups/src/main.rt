@@ -9,6 +9,7 @@ use calls_file::{Next, count_calls, next_call};
 use engine::call;
 use faults::Fault;
 use lines::line_of;
+use std::process::ExitCode;
 use std::{env, fs};
 
 const MOST_CAPACITY: usize = 16777216;
@@ -20,12 +21,14 @@ fn answer_room(capacity: usize) -> usize
     9 * capacity + 32
 }
 
-fn main(rt: HostRuntime) -> Result<(), Fault> {
-    let result = run(&rt);
-    if let Err(fault) = &result {
-        let _ = eprintln!(rt; "zemvrups: {fault}");
+fn main(rt: HostRuntime) -> ExitCode {
+    match run(&rt) {
+        Ok(()) => ExitCode::SUCCESS,
+        Err(fault) => {
+            let _ = eprintln!(rt; "zemvrups: {fault}");
+            ExitCode::FAILURE
+        }
     }
-    result
 }
 
 // The whole file is looked through before the first line is printed, so that a file that is cut off prints none.
