@@ -6,9 +6,9 @@ use Rattle.std.proofs.lemmas.Bool.{cases_lt, cases_Bool, and_parts}
 use Rattle.spec.specs.Bytes.{Bytes}
 use Rattle.laws.proofs.Texts.{false-true}
 use Rattle.rows.specs.Rows.{headed}
-use Rattle.wire.specs.Read.{Read, got, past, turn, follow, nth, got_one, read_one}
+use Rattle.wire.specs.Read.{Read, got, turn, follow, nth, got_one, read_one}
 use Rattle.wire.specs.Tags.{bool_tag, int_tag, string_tag, entity_tag, set_tag, record_tag, var_tag, ite_tag, and_tag, or_tag, not_tag, neg_tag, is_empty_tag, like_tag, is_tag, binary_tag, get_attr_tag, has_attr_tag, any_tag, eq_tag, mem_tag, is_mem_tag, scope_tag, in_any_tag}
-use Rattle.wire.specs.Grammar.{Small, truth, variable, operator, bool_type, effect, condition_kind, Choice, choices, Kind, value, expr, type, scope, action_scope, uid, attrs, record_type, condition, entity, entity_entry, action_entry, request, Tree, Fields, one, Contents, Tag, expr_tags, type_tags, scope_tags, action_scope_tags, admitted, read_tag_of, read_tag, fields, make, Reader, read_field, read_fields, read_node}
+use Rattle.wire.specs.Grammar.{Small, truth, variable, operator, bool_type, effect, condition_kind, Choice, choices, Kind, value, expr, type, scope, action_scope, uid, attrs, record_type, condition, entity, entity_entry, action_entry, request, Tree, Fields, Contents, Tag, expr_tags, type_tags, scope_tags, action_scope_tags, admitted, read_tag_of, read_tag, fields, make, Reader, read_field, read_fields, read_node}
 use Rattle.wire.specs.Sizes.{small_number}
 use Rattle.wire.proofs.Exact.{got-stops, got-long, got_same}
 use Rattle.wire.proofs.Fields.{nth_number}

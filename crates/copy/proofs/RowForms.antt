@@ -1,10 +1,10 @@
 -- The row of a tree that is copied field by field is its form, its length and the rows of its fields.
-use Rattle.std.proofs.Common.{◌≡◌, ℕ, ◌+◌, Bool, true, false, cond, List, [], ◌∷◌, ◌++◌, length, sym, refl, ap, ◌∙◌, arith}
+use Rattle.std.proofs.Common.{◌≡◌, ℕ, Bool, true, cond, List, [], ◌∷◌, ◌++◌, length, sym, refl, ap, ◌∙◌, arith}
 use Rattle.std.proofs.lemmas.List.{append_assoc}
 use Rattle.spec.specs.Basics.{Text}
 use Rattle.spec.specs.Values.{code_text}
-use Rattle.spec.specs.Exprs.{Expr, Exprs, ExprAttrs}
-use Rattle.spec.specs.Types.{CedarType, RecordType}
+use Rattle.spec.specs.Exprs.{Expr}
+use Rattle.spec.specs.Types.{CedarType}
 use Rattle.rows.specs.Rows.{rows_of, counted, headed, count_exprs, count_attrs, row_expr, row_exprs, row_expr_attrs, count_types, row_type, row_types, row_scope, row_action_scope, row_record_type}
 use Rattle.wire.specs.Tags.{ExprTag, bool_tag, int_tag, string_tag, entity_tag, set_tag, record_tag, var_tag, ite_tag, and_tag, or_tag, not_tag, neg_tag, is_empty_tag, like_tag, is_tag, binary_tag, get_attr_tag, has_attr_tag, TypeTag, ScopeTag, any_tag, eq_tag, mem_tag, is_mem_tag, ActionScopeTag, scope_tag, in_any_tag}
 use Rattle.wire.specs.Grammar.{Kind, value, expr, type, scope, action_scope, uid, attrs, record_type, condition, entity, entity_entry, action_entry, request, small, truth, text, node, one, more, Contents, Tag, expr_fields, type_fields, scope_fields, action_scope_fields, fields, to_exprs, to_expr_attrs, to_types, make_expr, make_type, make_scope, make_action_scope, make}

@@ -1,8 +1,8 @@
 -- The rows of trees, kind by kind and field by field, as copying writes them. Assumes nothing: these are definitions.
 -- Values and records of attributes are laid out otherwise than field by field, and are copied by functions of their own.
-use Rattle.std.specs.Prelude.{ℕ, Bool, true, false, ◌&&◌, List, [], ◌∷◌, ◌++◌, length}
+use Rattle.std.specs.Prelude.{ℕ, Bool, true, false, ◌&&◌, List, [], ◌∷◌, ◌++◌}
 use Rattle.spec.specs.Values.{code_text, code_uid}
-use Rattle.rows.specs.Rows.{counted, headed, row_expr, row_type, row_record_type, row_scope, row_action_scope, row_condition, behind_of, row_attrs, row_entity, row_entry, row_action, row_request}
+use Rattle.rows.specs.Rows.{counted, row_expr, row_type, row_record_type, row_scope, row_action_scope, row_condition, behind_of, row_attrs, row_entity, row_entry, row_action, row_request}
 use Rattle.wire.specs.Grammar.{Kind, value, expr, type, scope, action_scope, uid, attrs, record_type, condition, entity, entity_entry, action_entry, request, Tree, Field, part, small, word, text, pattern, node, list, Fields, no, one, more, Content, Contents}
 use Rattle.wire.specs.Sizes.{small_number}
 

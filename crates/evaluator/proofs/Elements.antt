@@ -1,5 +1,5 @@
 -- The elements of a set, evaluated one by one: those that have come to something wait, and what is left gives what all gives.
-use Rattle.std.proofs.Common.{◌≡◌, ℕ, zero, suc, ◌+◌, ◌-◌, ◌*◌, ◌<◌, ◌≤◌, ◌⊎◌, List, [], ◌∷◌, ◌++◌, length, get_or, take, Ok, Err, sym, refl, ap, ◌∙◌, subst, inl, inr, arith}
+use Rattle.std.proofs.Common.{◌≡◌, ℕ, zero, suc, ◌+◌, ◌-◌, ◌*◌, ◌<◌, ◌≤◌, List, [], ◌∷◌, ◌++◌, get_or, take, Ok, sym, refl, ap, ◌∙◌, subst, inl, inr, arith}
 use Rattle.std.proofs.lemmas.Bool.{cases_eq}
 use Rattle.spec.specs.Basics.{Except, ok, error, ◌>>=◌, insert_all}
 use Rattle.spec.specs.Values as s
@@ -12,7 +12,6 @@ use Rattle.values.specs.declared.nodes.Value.{Value}
 use Rattle.values.proofs.Made.{good-later, decode-later}
 use Rattle.values.proofs.Waits.{waits-beyond, waits-here, waits-still}
 use Rattle.operators.specs.Code.{Says}
-use Rattle.operators.specs.declared.errors.EvalError.{EvalError}
 use Rattle.exprs.specs.Heads.{size, behind}
 use Rattle.exprs.specs.Stored.{exprs_from, expr_at, sizes, Row, RowsFrom, GoodExpr}
 use Rattle.evaluator.specs.Evaluated.{Moved}

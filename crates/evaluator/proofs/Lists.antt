@@ -2,9 +2,9 @@
 use Rattle.std.proofs.Common.{◌≡◌, ℕ, zero, suc, ◌+◌, ◌<◌, ◌≤◌, List, [], ◌∷◌, ◌++◌, take, drop, sym, refl, ap, ◌∙◌, ap₂, arith}
 use Rattle.std.proofs.lemmas.List.{append_assoc, append-nil, take-take}
 use Rattle.spec.specs.Basics.{Except, ok, error, ◌>>=◌}
-use Rattle.values.specs.Held.{text_at, TextIn, Good}
+use Rattle.values.specs.Held.{text_at, TextIn}
 use Rattle.values.specs.Making.{up_to, listed}
-use Rattle.values.proofs.Frame.{text-on, text_in-on}
+use Rattle.values.proofs.Frame.{text-on}
 use Rattle.values.proofs.Made.{up-to-on}
 
 pub listed-alike : {A : Type 0} (f g : ℕ → A) (i n : ℕ) → ((k : ℕ) → i ≤ k → k < i + n → f k ≡ g k) → listed f i n ≡ listed g i n

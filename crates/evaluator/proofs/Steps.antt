@@ -1,19 +1,19 @@
 -- One evaluation after the other: what is left in memory, and what the whole comes to.
-use Rattle.std.proofs.Common.{◌≡◌, ℕ, zero, suc, ◌+◌, ◌-◌, ◌*◌, ◌≤◌, Bool, true, false, cond, List, [], ◌∷◌, ◌++◌, length, get_or, take, drop, Ok, Err, Result, sym, refl, ap, ◌∙◌, subst, ap₂, arith}
-use Rattle.std.proofs.lemmas.List.{take-take, take-append-le, get_or-append-add, length-append, length-take-le, append_assoc, append-nil, drop-append-le, get_or-drop}
+use Rattle.std.proofs.Common.{◌≡◌, ℕ, zero, suc, ◌+◌, ◌-◌, ◌≤◌, Bool, true, false, cond, List, ◌++◌, length, get_or, take, drop, Ok, Err, Result, sym, refl, ap, ◌∙◌, subst, ap₂, arith}
+use Rattle.std.proofs.lemmas.List.{take-take, take-append-le, get_or-append-add, get_or-drop}
 use Rattle.spec.specs.Basics.{Except, ok, error, ◌>>=◌}
 use Rattle.spec.specs.Values as s
 use Rattle.spec.specs.Values.{prim, string, entity_uid}
 use Rattle.spec.specs.Exprs as x
 use Rattle.spec.specs.Exprs.{not, neg, is_empty, like, is, ite, and, or, binary_app, var}
 use Rattle.spec.specs.Evaluate.{Error, type_error, as_bool, of_bool, just_bool, apply1, apply2, get_attr_of, has_attr_of, evaluate}
-use Rattle.values.specs.Held.{text_at, TextIn, uid_at, UIDIn, decode, Good, Stands}
+use Rattle.values.specs.Held.{text_at, TextIn, UIDIn, decode, Stands}
 use Rattle.values.specs.Making.{up_to}
 use Rattle.values.specs.declared.nodes.Value.{Value}
-use Rattle.values.specs.declared.nodes.Value.TheVariants.{Bool as B, Int, String, Entity, Set, Record}
+use Rattle.values.specs.declared.nodes.Value.TheVariants.{Bool as B, String, Entity, Record}
 use Rattle.values.proofs.Made.{work-grows}
 use Rattle.values.proofs.Frame.{text-on, text_in-on, uid-on, uid-in-on, stands-taller}
-use Rattle.operators.specs.Code.{error_of, Says}
+use Rattle.operators.specs.Code.{Says}
 use Rattle.operators.specs.declared.errors.EvalError.{EvalError}
 use Rattle.operators.proofs.Operands.{is-bool, no_bool}
 use Rattle.exprs.specs.Heads.{size, head_at, Inside}

@@ -1,7 +1,7 @@
 -- What is good can be read.
-use Rattle.std.proofs.Common.{ℕ, suc, List, arith}
+use Rattle.std.proofs.Common.{ℕ, List, arith}
 use Rattle.exprs.specs.Heads.{Inside}
-use Rattle.exprs.specs.Stored.{SoundExpr, GoodExpr}
+use Rattle.exprs.specs.Stored.{SoundExpr}
 use Rattle.exprs.specs.declared.Expr.{Expr}
 use Rattle.exprs.specs.declared.Expr.TheVariants.{Bool as B, Int, String, Entity, Var as Variable, If, And, Or, Not, Neg, IsEmpty, Like, Is, Binary, GetAttr, HasAttr, Set, Record}
 

@@ -1,5 +1,5 @@
 -- Rows of expressions mean the expressions that they were made from, wherever they lie.
-use Rattle.std.proofs.Common.{◌≡◌, ℕ, zero, suc, ◌+◌, ◌-◌, ◌<◌, ◌≤◌, Bool, true, false, ◌&&◌, eqb, List, [], ◌∷◌, ◌++◌, length, get_or, sym, refl, ap, ◌∙◌, subst, ap₂, arith}
+use Rattle.std.proofs.Common.{◌≡◌, ℕ, zero, suc, ◌+◌, ◌-◌, ◌≤◌, Bool, true, false, ◌&&◌, eqb, List, [], ◌∷◌, ◌++◌, length, get_or, sym, refl, ap, ◌∙◌, subst, ap₂, arith}
 use Rattle.std.proofs.lemmas.Bool.{and_parts}
 use Rattle.std.proofs.lemmas.List.{length-append}
 use Rattle.spec.specs.Basics.{Text}
@@ -10,8 +10,7 @@ use Rattle.spec.specs.Calls.{level, is_bytes, encodable_op, encodable_expr, enco
 use Rattle.spec.specs.Bytes.{var_number, binary_number}
 use Rattle.laws.proofs.Texts.{false-true}
 use Rattle.rows.specs.Rows.{headed, row_expr, row_exprs, row_expr_attrs, count_exprs, count_attrs}
-use Rattle.values.specs.Held.{raised, lowered, text_at, TextIn, behind_text}
-use Rattle.values.specs.Stored.{LiesAt}
+use Rattle.values.specs.Held.{lowered, text_at, TextIn, behind_text}
 use Rattle.values.proofs.Means.{raised-lowered, one_more}
 use Rattle.values.proofs.Placed.{Lies, lies, lies-move, lies-append, lies-long, text-lies, uid-lies}
 use Rattle.exprs.specs.Heads.{size, behind, head_of, head_at, var_at, op_at}

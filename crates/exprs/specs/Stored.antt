@@ -1,5 +1,5 @@
 -- What the rows of expressions stand for, to a height, and which are good.
-use Rattle.std.specs.Prelude.{◌≡◌, ℕ, zero, suc, ◌+◌, ◌<◌, ◌≤◌, Bool, true, false, List, length, get_or}
+use Rattle.std.specs.Prelude.{◌≡◌, ℕ, zero, suc, ◌+◌, ◌≤◌, true, false, List, length}
 use Rattle.spec.specs.Values.{bool, int, string, entity_uid}
 use Rattle.spec.specs.Exprs as s
 use Rattle.spec.specs.Exprs.{lit, var, ite, and, or, not, neg, is_empty, like, is, unary_app, binary_app, get_attr, has_attr, set, record_of, Exprs, nil, cons, ExprAttrs, empty, attr}

@@ -1,9 +1,9 @@
 -- Integers of 64 bits: the definitions come to the right ones, and fail only where there is none.
-use Rattle.std.proofs.Common.{◌≡◌, ℕ, ◌+◌, ◌-◌, ◌*◌, ◌<◌, ◌≤◌, Bool, true, false, cond, ◌&&◌, eqb, ltb, leb, ◌⊎◌, sym, refl, ◌∙◌, inl, inr, arith}
+use Rattle.std.proofs.Common.{◌≡◌, ℕ, ◌+◌, ◌-◌, ◌*◌, ◌<◌, ◌≤◌, Bool, true, false, cond, ◌&&◌, eqb, ltb, leb, ◌⊎◌, sym, refl, inl, inr, arith}
 use Rattle.std.proofs.lemmas.Bool.{leb-true, leb-false, ltb-true, ltb-false, eqb-true, eqb-false}
 use Rattle.spec.specs.Basics.{Except, ok, error}
 use Rattle.spec.specs.Values.{Value}
-use Rattle.spec.specs.Evaluate.{Error, arith_bounds_error, of_int, half, whole, bounded, sum, difference, is_negative, magnitude, signed, differ, product, negation}
+use Rattle.spec.specs.Evaluate.{Error, arith_bounds_error, of_int, half, whole, bounded, difference, is_negative, magnitude, signed, negation}
 use Rattle.spec.specs.Promises.{ArithmeticIsExact, FailsOutOfBounds}
 
 int_is : {m n : ℕ} → ◌≡◌ {A = Except Error Value} (ok (of_int m)) (ok (of_int n)) → m ≡ n

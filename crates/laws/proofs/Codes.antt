@@ -1,5 +1,5 @@
 -- A value is told by its row of numbers, whatever comes after it; and so is the name of an entity.
-use Rattle.std.proofs.Common.{◌≡◌, ℕ, ◌+◌, Bool, true, false, eqb, [], ◌∷◌, ◌++◌, length, sym, refl, ap, arith}
+use Rattle.std.proofs.Common.{◌≡◌, ℕ, Bool, true, false, eqb, [], ◌∷◌, ◌++◌, length, sym, refl, ap, arith}
 use Rattle.std.proofs.lemmas.Bool.{eqb-false}
 use Rattle.std.proofs.lemmas.List.{append_assoc}
 use Rattle.spec.specs.Basics.{Text, same}

@@ -10,14 +10,14 @@ use Rattle.spec.specs.Bytes.{effect_number, kind_number}
 use Rattle.spec.specs.Calls.{is_bytes, encodable_expr, encodable_scope, encodable_action_scope, sum_of, size_condition}
 use Rattle.rows.specs.Rows.{headed, rows_of, counted, row_expr, row_scope, row_action_scope, row_condition, row_policy}
 use Rattle.rows.proofs.Bounds.{expr-long}
-use Rattle.values.specs.Held.{text_at, TextIn, behind_text}
+use Rattle.values.specs.Held.{behind_text}
 use Rattle.values.proofs.Placed.{Lies, lies, lies-move, lies-append, lies-long, lies_at, text-lies, uid-lies}
 use Rattle.exprs.specs.Heads.{size, behind}
 use Rattle.exprs.proofs.Means.{behind-text, rows-mean}
 use Rattle.entities.proofs.Meant.{uids-lie}
-use Rattle.policies.specs.Heads.{effect_at, scope_of, scope_at, effect_place, principal_place, action_place, resource_place, conditions_place}
-use Rattle.policies.specs.Stored.{scope_means, action_scope_means, Plain, ScopeIn, ScopeRow, kind_at, conditions_from, ConditionsIn, sizes_from, effect_means, condition_sizes}
-use Rattle.policies.specs.Meaning.{PolicyMeant, PolicyRowsMean}
+use Rattle.policies.specs.Heads.{effect_at, scope_of, scope_at, principal_place, action_place, resource_place, conditions_place}
+use Rattle.policies.specs.Stored.{scope_means, action_scope_means, Plain, ScopeIn, ScopeRow, kind_at, conditions_from, ConditionsIn, sizes_from, effect_means}
+use Rattle.policies.specs.Meaning.{PolicyRowsMean}
 use Rattle.policies.specs.declared.reading.Scope.{Scope}
 use Rattle.policies.specs.declared.reading.Scope.TheVariants.{Any, Eq, Mem, Is, IsMem, InAny}
 

@@ -3,7 +3,7 @@ use Rattle.std.proofs.Common.{◌≡◌, ℕ, Bool, true, false, cond, ◌&&◌,
 use Rattle.spec.specs.Basics.{ok, ◌>>=◌, any, Text, same, less, insert, insert_all}
 use Rattle.spec.specs.Values as s
 use Rattle.spec.specs.Values.{EntityUID, entity_uid, Value, prim, set, to_values, code, same_uid, same_value}
-use Rattle.spec.specs.Exprs.{Var, action, Expr, lit, var, mem, binary_app, set}
+use Rattle.spec.specs.Exprs.{Var, action, Expr, var, mem, binary_app, set}
 use Rattle.spec.specs.Evaluate.{of_bool, as_bool, as_entity_uid, as_entity_uids, in_entity, in_set, in_value, var_of, just_bool, evaluate}
 use Rattle.spec.specs.Policies.{eq, mem, is, is_mem, scope_expr, uid_exprs, action_scope_expr}
 use Rattle.laws.proofs.Codes.{same_code}

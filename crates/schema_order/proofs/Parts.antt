@@ -1,15 +1,15 @@
 -- What trees are made of, and where their parts stand.
-use Rattle.std.proofs.Common.{◌≡◌, ℕ, ◌+◌, ◌-◌, Bool, false, List, [], ◌∷◌, drop, sym, refl, ap, ◌∙◌, subst, zero-add}
+use Rattle.std.proofs.Common.{◌≡◌, ℕ, ◌+◌, Bool, false, List, [], ◌∷◌, drop, sym, refl, ap, ◌∙◌, subst, zero-add}
 use mathlib.Core.Option.{Option, some, none}
 use Rattle.std.proofs.lemmas.List.{drop-drop}
-use Rattle.spec.specs.Basics.{Text, same}
+use Rattle.spec.specs.Basics.{Text}
 use Rattle.spec.specs.Bytes.{Bytes}
 use Rattle.spec.specs.Values.{EntityUID}
 use Rattle.spec.specs.Types.{CedarType, int, empty}
 use Rattle.wire.specs.Read.{Read, got, stops, past, turn, follow, nth, got_one, read_text, read_one, read_list}
 use Rattle.wire.specs.Grammar.{type, uid, record_type, entity_entry, action_entry, truth, text, node, list, one, more, two, three, choices, fields, make, to_types, read_fields, read_node}
 use Rattle.schema_order.specs.declared.lists.Listed.TheVariants.{Names, Uids, Entries, Actions, Attributes}
-use Rattle.schema_order.specs.Places.{principals_at, resources_at, over_at, context_at, Got, made, what, long, end_of, text_at, read_uid, uid_at, type_at, read_attribute, read_item, read_many, list_at}
+use Rattle.schema_order.specs.Places.{principals_at, resources_at, over_at, context_at, Got, what, long, end_of, text_at, read_uid, uid_at, type_at, read_attribute, read_item, read_many, list_at}
 
 -- ---- two things, one behind another
 abbrev pub pair : {X Y : Type 0} → X → Y → X × Y

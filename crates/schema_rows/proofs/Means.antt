@@ -1,21 +1,19 @@
 -- The row of a schema means that schema, wherever it lies.
-use Rattle.std.proofs.Common.{◌≡◌, ℕ, zero, suc, ◌+◌, ◌-◌, ◌<◌, ◌≤◌, Bool, true, false, not, ◌&&◌, leb, List, [], ◌∷◌, ◌++◌, length, get_or, sym, refl, ap, ◌∙◌, subst, ap₂, arith}
+use Rattle.std.proofs.Common.{◌≡◌, ℕ, suc, ◌+◌, Bool, true, not, ◌&&◌, leb, List, [], ◌∷◌, ◌++◌, length, sym, refl, ap, ◌∙◌, subst, ap₂, arith}
 use Rattle.std.proofs.lemmas.Bool.{and_parts}
 use Rattle.std.proofs.lemmas.List.{length-append}
-use Rattle.spec.specs.Basics.{Text, all, any, is_some, ascending, itself, name}
-use Rattle.spec.specs.Values.{EntityUID, code_text, code_uid, same_uid}
+use Rattle.spec.specs.Basics.{Text, all, is_some, ascending, itself}
+use Rattle.spec.specs.Values.{EntityUID, code_text, code_uid}
 use Rattle.spec.specs.Types.{CedarType, Schema, bool, int, string, entity, set, record_of, RecordType, empty, attr, EntitySchemaEntry, ActionSchemaEntry, entity_type_key, action_key, find_entity_type, find_action, known_type}
-use Rattle.spec.specs.Validate.{well_formed_type, well_formed_entry, well_formed_action, well_formed, closed_at}
-use Rattle.spec.specs.Calls.{encodable, set_schema, encodable_type, encodable_entry, encodable_action, encodable_uid, is_bytes}
+use Rattle.spec.specs.Validate.{well_formed_type, well_formed_entry, well_formed_action}
+use Rattle.spec.specs.Calls.{encodable_type, encodable_entry, encodable_action, encodable_uid, is_bytes}
 use Rattle.rows.specs.Rows.{rows_of, counted, row_type, row_types, row_record_type, count_types, row_entry, row_action, row_schema}
 use Rattle.values.specs.Held.{text_at, TextIn, behind_text, uid_at, UIDIn}
-use Rattle.values.specs.Stored.{LiesAt}
 use Rattle.values.proofs.Placed.{Lies, lies, lies_at, lies-move, lies-append, text-lies, uid-lies}
-use Rattle.types.specs.Held.{row_type_at, behind_row, next_at, attrs_at, plain, decode, TypeRowIn, Good}
-use Rattle.types.specs.declared.nodes.CedarType.TheVariants.{Record}
+use Rattle.types.specs.Held.{behind_row, next_at}
 use Rattle.types.proofs.Means.{mean, formed-plain, type-rows-mean}
-use Rattle.schema_rows.specs.Lists.{list_from, past, AllFrom, list_at, behind_list, ListIn, behind_uid, texts_at, uids_at}
-use Rattle.schema_rows.specs.Schemas.{type_depth, type_at, attr_types_at, RecordTypeIn, TypeIn, entry_attrs, entry_tags, behind_entry, entry_at, EntryIn, action_resources, action_ancestors, action_context, behind_action, action_at, ActionIn, schema_actions, schema_at, SchemaIn, SchemaRowsMean}
+use Rattle.schema_rows.specs.Lists.{list_from, past, AllFrom, list_at, behind_list, ListIn, behind_uid}
+use Rattle.schema_rows.specs.Schemas.{type_depth, type_at, attr_types_at, RecordTypeIn, TypeIn, entry_attrs, entry_tags, behind_entry, entry_at, EntryIn, action_resources, action_ancestors, action_context, behind_action, action_at, ActionIn, schema_actions, SchemaRowsMean}
 
 depth_is : 64 ≡ type_depth
 unfolding type_depth

@@ -1,11 +1,10 @@
 -- What the lists of a schema's entries are made of can be passed over.
-use Rattle.std.proofs.Common.{◌≡◌, ℕ, zero, suc, ◌+◌, ◌-◌, ◌<◌, ◌≤◌, Bool, true, false, cond, ◌&&◌, ◌||◌, List, [], ◌∷◌, length, get_or, Some, sym, refl, ap, ◌∙◌, subst}
-use mathlib.Core.Option.{Option, some, none}
+use Rattle.std.proofs.Common.{◌≡◌, ℕ, zero, suc, ◌+◌, ◌-◌, ◌<◌, Bool, true, false, cond, ◌||◌, List, [], ◌∷◌, get_or, Some, sym, refl, ap, ◌∙◌, subst}
+use mathlib.Core.Option.{Option, some}
 use Rattle.spec.specs.Basics.{any, is_some, Text, same, find}
 use Rattle.spec.specs.Types.{EntitySchemaEntry, ActionSchemaEntry}
 use Rattle.types.specs.Held.{next_at, behind_row, TypeRowIn, AttrIn, GoodFrom, Good}
 use Rattle.types.specs.declared.nodes.CedarType.{CedarType}
-use Rattle.types.specs.declared.nodes.CedarType.TheVariants.{Record}
 use Rattle.schema_rows.specs.Lists.{list_from, AllFrom, ListIn, PartIn, next_by}
 use Rattle.schema_rows.specs.declared.lists.Part.TheVariants.{Attr, Row}
 use Rattle.schema_rows.specs.Schemas.{type_depth, TypeIn, TypesIn, RecordTypeIn, entry_at, EntryIn, EntryIs, EntryFound, action_at, ActionIn, ActionIs, ActionFound, first_that}

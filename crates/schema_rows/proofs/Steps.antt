@@ -1,6 +1,5 @@
 -- One step along a list.
-use Rattle.std.proofs.Common.{◌≡◌, ℕ, zero, suc, ◌+◌, ◌-◌, ◌<◌, ◌≤◌, Bool, true, false, cond, ◌||◌, List, [], ◌∷◌, sym, refl, ap, ◌∙◌, subst, arith}
-use mathlib.Core.Option.{Option, some, none}
+use Rattle.std.proofs.Common.{◌≡◌, ℕ, zero, suc, ◌-◌, ◌<◌, ◌≤◌, Bool, true, false, ◌||◌, [], ◌∷◌, sym, refl, ap, ◌∙◌, subst, arith}
 use Rattle.spec.specs.Basics.{any}
 use Rattle.types.proofs.Walks.{above_zero}
 use Rattle.schema_rows.specs.Lists.{list_from, past, AllFrom}

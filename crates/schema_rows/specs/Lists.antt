@@ -1,6 +1,5 @@
 -- Things that lie one after the other: how they are read, and what is behind them.
-use Rattle.std.specs.Prelude.{◌≡◌, ℕ, zero, suc, ◌+◌, ◌<◌, Bool, true, List, [], ◌∷◌, length, slice_index}
-use Rattle.std.proofs.Math.Option.{Option, some, none}
+use Rattle.std.specs.Prelude.{ℕ, zero, suc, ◌+◌, ◌<◌, Bool, true, List, [], ◌∷◌, length, slice_index}
 use Rattle.spec.specs.Basics.{Text, same}
 use Rattle.spec.specs.Values.{EntityUID, same_uid}
 use Rattle.values.specs.Held.{text_at, TextIn, behind_text, uid_at, UIDIn}

@@ -1,8 +1,8 @@
 -- A schema as it lies in the store: the places of what its entries are made of, and what stands there.
-use Rattle.std.specs.Prelude.{◌≡◌, ℕ, suc, ◌+◌, Bool, true, cond, ◌&&◌, List, [], ◌∷◌, length, get_or, Some, None, Option}
+use Rattle.std.specs.Prelude.{◌≡◌, ℕ, suc, Bool, true, cond, ◌&&◌, List, [], ◌∷◌, Some, None, Option}
 use Rattle.std.proofs.Math.Option as o
 use Rattle.spec.specs.Basics.{any, same}
-use Rattle.spec.specs.Values.{EntityUID, same_uid}
+use Rattle.spec.specs.Values.{same_uid}
 use Rattle.spec.specs.Types as s
 use Rattle.spec.specs.Types.{RecordType, EntitySchemaEntry, ActionSchemaEntry}
 use Rattle.spec.specs.Validate.{well_formed}

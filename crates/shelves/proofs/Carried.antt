@@ -1,6 +1,6 @@
 -- A function that keeps keys carries insertion, removal, search and order over.
 use Rattle.std.proofs.Common.{◌≡◌, Bool, true, false, cond, ◌&&◌, List, [], ◌∷◌, map, sym, refl, ap, ◌∙◌, ap₂}
-use mathlib.Core.Option.{Option, some, none}
+use mathlib.Core.Option.{some}
 use Rattle.spec.specs.Basics.{Text, same, less, insert, remove, find, ascending}
 use Rattle.shelves.specs.Mapped.{on_some, CarriesOver}
 

@@ -1,10 +1,10 @@
 -- Items as they lie in memory: read back, added up, and the k-th of them.
-use Rattle.std.proofs.Common.{◌≡◌, ℕ, zero, suc, ◌+◌, ◌-◌, ◌<◌, ◌≤◌, List, [], ◌∷◌, ◌++◌, length, get_or, take, drop, sym, refl, ap, ◌∙◌, ap₂, append_assoc, arith}
-use Rattle.std.proofs.lemmas.List.{length-append, length-drop, drop-drop, drop_at, take_at, get_or-drop, take-append-drop, drop-append-le, length-take-le}
+use Rattle.std.proofs.Common.{◌≡◌, ℕ, zero, suc, ◌+◌, ◌<◌, ◌≤◌, List, [], ◌∷◌, ◌++◌, length, get_or, take, drop, sym, refl, ap, ◌∙◌, ap₂, append_assoc, arith}
+use Rattle.std.proofs.lemmas.List.{length-append, length-drop, drop-drop, drop_at, take_at, get_or-drop, length-take-le}
 use Rattle.values.specs.Held.{text_at, TextIn, behind_text, uid_at, UIDIn}
 use Rattle.values.proofs.Frame.{text-on, text_in-on, uid-on, uid-in-on}
 use Rattle.shelves.specs.Items.{Item, numbers, laid, items_in, sizes, offsets, Each}
-use Rattle.shelves.proofs.Splits.{Nth, nth}
+use Rattle.shelves.proofs.Splits.{nth}
 
 pub laid-append : (xs ys : List Item) → laid (xs ++ ys) ≡ laid xs ++ laid ys
 laid-append [] ys = refl

@@ -1,11 +1,11 @@
 -- Lists in the order of a key, split at a key: what is before it has lesser keys, what is behind it greater ones.
-use Rattle.std.proofs.Common.{◌≡◌, ℕ, zero, suc, ◌+◌, ◌<◌, ◌≤◌, Bool, true, false, cond, ◌⊎◌, List, [], ◌∷◌, ◌++◌, length, take, drop, sym, refl, ap, ◌∙◌, inl, inr, arith}
-use mathlib.Core.Option.{some, none}
+use Rattle.std.proofs.Common.{◌≡◌, ℕ, zero, suc, ◌+◌, ◌<◌, true, false, List, [], ◌∷◌, ◌++◌, length, take, drop, sym, refl, ap, ◌∙◌, inl, inr, arith}
+use mathlib.Core.Option.{some}
 use Rattle.std.proofs.lemmas.List.{take-append-drop}
 use Rattle.std.proofs.lemmas.Bool.{cases_Bool, both_ways}
 use Rattle.spec.specs.Basics.{Text, same, less, insert, remove, find}
-use Rattle.laws.proofs.Texts.{false-true, same_true, same_refl, less-irrefl, less-tri, less-trans, less-not}
-use Rattle.laws.proofs.Keyed.{Before, Sorted, not_found}
+use Rattle.laws.proofs.Texts.{same_true, same_refl, less-irrefl, less-trans, less-not}
+use Rattle.laws.proofs.Keyed.{Before, Sorted}
 
 pub not-both : (x y : Text) → less x y ≡ true → less y x ≡ false
 not-both x y h = elim (cases_Bool (less y x)) [

@@ -1,13 +1,12 @@
 -- The spot of a key in a list that is in the order of keys.
-use Rattle.std.proofs.Common.{◌≡◌, ℕ, zero, suc, ◌+◌, ◌<◌, ◌≤◌, min, true, List, [], ◌∷◌, ◌++◌, length, take, drop, sym, refl, ap, ◌∙◌, append_assoc, arith}
-use mathlib.Core.Option.{some, none}
+use Rattle.std.proofs.Common.{◌≡◌, ℕ, ◌+◌, ◌<◌, ◌≤◌, List, [], ◌∷◌, ◌++◌, length, take, drop, sym, ap, ◌∙◌, arith}
 use Rattle.std.proofs.lemmas.List.{take-append-drop, drop-drop, length-append}
-use Rattle.spec.specs.Basics.{Text, less, first, insert, remove, find}
-use Rattle.laws.proofs.Keyed.{Before, Sorted, not_found}
-use Rattle.shelves.specs.Items.{Item, numbers, laid, sizes}
+use Rattle.spec.specs.Basics.{Text, first, insert, remove, find}
+use Rattle.laws.proofs.Keyed.{Before, not_found}
+use Rattle.shelves.specs.Items.{Item, laid, sizes}
 use Rattle.shelves.specs.Spots.{there, before, here, behind, Place, Found}
 use Rattle.shelves.specs.declared.finding.Spot.{Spot}
-use Rattle.shelves.proofs.Splits.{Under, insert-past, remove-past, find_past, insert-here, remove-here, find-here, insert-before, remove-none, Nth, nth, sorted-behind}
+use Rattle.shelves.proofs.Splits.{Under, insert-past, remove-past, find_past, insert-here, remove-here, find-here, insert-before, remove-none, nth}
 use Rattle.shelves.proofs.Laid.{sizes-append, place_of}
 
 -- the three parts

@@ -1,7 +1,7 @@
 -- What a change of the table leaves.
-use Rattle.std.proofs.Common.{◌≡◌, ℕ, zero, suc, ◌+◌, ◌-◌, ◌^◌, ◌<◌, ◌≤◌, List, [], ◌∷◌, ◌++◌, map, length, get_or, take, drop, set, sym, refl, ap, ◌∙◌, append_assoc, arith}
+use Rattle.std.proofs.Common.{◌≡◌, ℕ, ◌+◌, ◌-◌, ◌<◌, ◌≤◌, List, [], ◌∷◌, ◌++◌, length, get_or, take, drop, set, sym, ap, ◌∙◌, append_assoc, arith}
 use borrow.Rule.Slice.PartMut.{put_mid}
-use Rattle.std.proofs.lemmas.List.{length-append, length-drop, get_or-drop, drop-drop, take_at, drop_at, get_or-take, length-take-le, drop-set-lt, take_more_set, take-append-le, take-take}
+use Rattle.std.proofs.lemmas.List.{length-append, length-drop, get_or-drop, take_at, drop_at, get_or-take, length-take-le, drop-set-lt, take_more_set, take-append-le, take-take}
 use Rattle.shelves.specs.Moves.{moved, raised, rest, tabled_with, tabled_without}
 
 -- the numbers behind those that come or go have moved

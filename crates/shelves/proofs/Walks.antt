@@ -1,8 +1,7 @@
 -- A walk along items, and a search by halves among them.
-use Rattle.std.proofs.Common.{◌≡◌, ℕ, zero, suc, ◌+◌, ◌<◌, ◌≤◌, true, false, List, [], ◌∷◌, ◌++◌, length, get_or, take, drop, sym, refl, ap, ◌∙◌, subst, append_assoc, arith}
+use Rattle.std.proofs.Common.{◌≡◌, ℕ, ◌+◌, ◌<◌, ◌≤◌, true, List, [], ◌++◌, length, get_or, take, drop, sym, ap, ◌∙◌, subst, append_assoc, arith}
 use Rattle.std.proofs.lemmas.List.{length-append, length-drop, drop-append-le, drop_all, get_or-drop, get_or_append_left}
-use Rattle.spec.specs.Basics.{Text, less, ascending}
-use Rattle.laws.proofs.Texts.{less-tri}
+use Rattle.spec.specs.Basics.{Text, less}
 use Rattle.laws.proofs.Keyed.{Before, Sorted, ascending-sorted}
 use Rattle.values.specs.Held.{text_at, TextIn, uid_at, UIDIn}
 use Rattle.values.specs.Order.{order_row}
@@ -10,11 +9,11 @@ use Rattle.values.specs.declared.ordering.Order.{Order}
 use Rattle.values.specs.declared.ordering.Order.TheVariants.{Less, Same, Greater}
 use Rattle.values.proofs.Orders.{is-less, less-row, same_row}
 use Rattle.values.proofs.Rising.{flip-row}
-use Rattle.shelves.specs.Items.{Item, numbers, laid, items_in, items_at, id_key, IdIn, uid_key, UidIn, Each, offsets, Shelf, Tabled}
+use Rattle.shelves.specs.Items.{Item, items_at, id_key, IdIn, UidIn, offsets, Shelf, Tabled}
 use Rattle.shelves.specs.Spots.{Found, EntryAt, EntryOf}
 use Rattle.shelves.specs.declared.finding.Spot.{Spot}
 use Rattle.shelves.specs.declared.finding.Entry.{Entry}
-use Rattle.shelves.proofs.Splits.{Under, under-append, before_more, Nth, nth, sorted-behind, sorted-under, under_same}
+use Rattle.shelves.proofs.Splits.{Under, under-append, before_more, nth, sorted-behind, sorted-under, under_same}
 use Rattle.shelves.proofs.Laid.{length-items, place_of, Lies, kth-lies, lies-length, lies-size, lies-row, lies_within, place-next, take-one, each-nth, text_in, text-is, uid-in, uid-is, length-offsets, offset-of}
 use Rattle.shelves.proofs.Spotted.{found-new, found-there}
 

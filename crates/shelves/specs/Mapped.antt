@@ -4,7 +4,7 @@ use Rattle.std.proofs.Math.Option.{Option, some, none}
 use Rattle.spec.specs.Basics.{Text, insert, remove, find, ascending}
 use Rattle.spec.specs.Values.{entity_key}
 use Rattle.spec.specs.Policies.{policy_key}
-use Rattle.shelves.specs.Items.{Item, id_key, uid_key}
+use Rattle.shelves.specs.Items.{id_key, uid_key}
 
 abbrev pub on_some : {A B : Type 0} → (A → B) → Option A → Option B
 on_some f (some a) = some (f a)

@@ -1,6 +1,5 @@
 -- What an expression comes to: a value, or the first of five errors. Assumes nothing: these are definitions.
 use Rattle.std.specs.Prelude.{Bool, true, false, cond, not as flip, ◌&&◌, ◌||◌, List, [], ◌∷◌, ℕ, ◌+◌, ◌*◌, ◌-◌, ltb, leb, eqb}
-use Rattle.std.proofs.Math.Option.{none}
 use Rattle.spec.specs.Basics.{Except, ok, error, ◌>>=◌, or_error, is_some, any, all, is_empty as is_nil, Text, same, insert_all, lookup, name}
 use Rattle.spec.specs.Values.{EntityUID, bool, int, string, entity_uid, Value, prim, set, record_of, Attrs, elements, to_values, fields, to_attrs, same_value, code, same_uid, Entities, find_entity, attrs_or_empty, tags_or_empty, ancestors_or_empty, Request}
 use Rattle.spec.specs.Exprs.{Var, principal, action, resource, context, star, UnaryOp, not, neg, is_empty, like, is, BinaryOp, eq, mem, has_tag, get_tag, less, less_eq, add, sub, mul, contains, contains_all, contains_any, Expr, lit, var, ite, and, or, unary_app, binary_app, get_attr, has_attr, set, record_of, Exprs, nil, cons, ExprAttrs, empty, attr}

@@ -1,7 +1,7 @@
 -- What is promised. Each is a statement, a type: the crate `laws` proves those about the definitions, and the public functions of the engine the others.
 use Rattle.std.specs.Prelude.{◌≡◌, Bool, true, false, not as flip, ◌&&◌, ◌||◌, List, [], ◌∷◌, ◌⊎◌, ℕ, ◌+◌, ◌*◌, ◌≤◌, ◌<◌, eqb, ltb, length}
-use Rattle.std.proofs.Math.Option.{some, none}
-use Rattle.spec.specs.Basics.{Except, ok, error, is_some, any, all, Text, same, less, ascending}
+use Rattle.std.proofs.Math.Option.{some}
+use Rattle.spec.specs.Basics.{Except, ok, error, is_some, any, all, Text, same, ascending}
 use Rattle.spec.specs.Values.{bool, int, string, entity_uid, Value, prim, set, record_of, same_value, code, less_value, Entities, entity_key, Request}
 use Rattle.spec.specs.Exprs.{Expr, substitute_action}
 use Rattle.spec.specs.Evaluate.{Error, entity_does_not_exist, attr_does_not_exist, tag_does_not_exist, type_error, arith_bounds_error, of_int, half, whole, sum, difference, is_negative, magnitude, differ, product, negation, evaluate}

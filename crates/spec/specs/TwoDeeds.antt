@@ -2,7 +2,7 @@
 use Rattle.std.specs.Prelude.{◌≡◌, true, false, List, [], ◌∷◌, ℕ, ◌+◌, codes}
 use Rattle.spec.specs.Basics.{ok, Text}
 use Rattle.spec.specs.Values.{EntityUID, Primitive, bool, int, entity_uid, prim, Attrs, empty, attr, Entity, Entities, Request}
-use Rattle.spec.specs.Exprs.{principal, action, resource, context, eq, less, mul, Expr, lit, var, and, or, binary_app, get_attr, has_attr}
+use Rattle.spec.specs.Exprs.{principal, resource, context, eq, less, mul, Expr, lit, var, and, or, binary_app, get_attr, has_attr}
 use Rattle.spec.specs.Evaluate.{half}
 use Rattle.spec.specs.Policies.{permit, forbid, any, eq, mem, is, in_scope, Condition, when, unless, Policy, Policies, Decision, allow, deny, Response}
 use Rattle.spec.specs.Types.{any_bool, CedarType, bool, int, entity, empty, attr, Schema}

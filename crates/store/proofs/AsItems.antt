@@ -1,14 +1,13 @@
 -- Trees as items: their keys, their bounds, and that a call changes both alike.
-use Rattle.std.proofs.Common.{◌≡◌, ℕ, ◌+◌, ◌*◌, ◌≤◌, List, [], ◌∷◌, ◌++◌, map, length, take, drop, sym, refl, ap, ◌∙◌, append_assoc, arith}
+use Rattle.std.proofs.Common.{◌≡◌, ℕ, ◌≤◌, List, [], ◌∷◌, ◌++◌, map, length, sym, refl, ap, arith}
 use Rattle.std.proofs.lemmas.List.{take_at}
 use Rattle.spec.specs.Basics.{Text}
 use Rattle.spec.specs.Values.{EntityUID, Entity, code_text, code_uid, entity_key}
 use Rattle.spec.specs.Policies.{Scope, any, eq, mem, is, is_mem, Policy, policy_key}
 use Rattle.spec.specs.Calls.{sum_of, size_scope, size_policy, size_entity}
-use Rattle.rows.specs.Rows.{row_policy, row_entity}
 use Rattle.rows.proofs.Bounds.{rows-are-bounded}
 use Rattle.values.specs.Held.{text_at, TextIn, uid_at, UIDIn}
-use Rattle.values.proofs.Placed.{Lies, lies, text-lies, uid-lies}
+use Rattle.values.proofs.Placed.{lies, text-lies, uid-lies}
 use Rattle.shelves.specs.Items.{Item, id_key, uid_key}
 use Rattle.shelves.proofs.Carried.{carried}
 use Rattle.store.specs.Changes.{with_policies, with_entities}

@@ -1,11 +1,11 @@
 -- The store as an entity comes or goes.
-use Rattle.std.proofs.Common.{◌≡◌, ℕ, ◌+◌, ◌-◌, ◌*◌, ◌/◌, ◌^◌, ◌<◌, ◌≤◌, min, List, [], ◌∷◌, ◌++◌, length, get_or, take, drop, set, sym, refl, ap, ◌∙◌, subst, ap₂, append_assoc, arith, take-add}
+use Rattle.std.proofs.Common.{◌≡◌, ℕ, ◌+◌, ◌-◌, ◌*◌, ◌^◌, ◌<◌, ◌≤◌, min, List, [], ◌∷◌, ◌++◌, length, get_or, take, drop, set, sym, refl, ap, ◌∙◌, subst, ap₂, append_assoc, arith, take-add}
 use borrow.Rule.Slice.PartMut.{put_mid}
-use Rattle.std.proofs.lemmas.List.{length-append, length-drop, length-take-le, take_rest, take_at, drop_at, drop-drop, drop_all, append-nil, take-append-drop}
+use Rattle.std.proofs.lemmas.List.{length-append, length-drop, length-take-le, take_rest, take_at, drop_at, drop_all, append-nil}
 use Rattle.spec.specs.Basics.{Text, insert, remove}
 use Rattle.laws.proofs.Stores.{ascending-insert, ascending-remove}
 use Rattle.copy.specs.Writing.{written}
-use Rattle.shelves.specs.Items.{Item, numbers, laid, items_at, offsets, uid_key, UidIn, Tabled}
+use Rattle.shelves.specs.Items.{numbers, laid, items_at, offsets, uid_key, UidIn, Tabled}
 use Rattle.shelves.specs.Spots.{there, before, here, behind, Place, Found, EntryAt, EntryOf}
 use Rattle.shelves.specs.Moves.{tabled_with, tabled_without}
 use Rattle.shelves.specs.declared.finding.Spot.{Spot}
@@ -13,13 +13,13 @@ use Rattle.shelves.specs.declared.finding.Entry.{Entry}
 use Rattle.shelves.proofs.Walks.{entry_here}
 use Rattle.shelves.specs.declared.finding.Table.{Table}
 use Rattle.shelves.proofs.Offsets.{table-with, table-without, table-bounds}
-use Rattle.store.specs.Sections.{Sections, size_of, policies_at, entities_at, used_of, table_at, store_numbers, header, layout, sections, Kept, Ordered, Good, Holds}
+use Rattle.store.specs.Sections.{Sections, entities_at, used_of, table_at, header, layout, sections, Ordered, Good, Holds}
 use Rattle.store.specs.Places.{header_row, Says, reopened}
 use Rattle.store.specs.Changes.{Comes, item, with_entity, without_entity, EntityRoom}
 use Rattle.store.specs.declared.layout.Header.{Header}
-use Rattle.store.proofs.Reading.{held_after, header_is, says, entity-table, long, bounds}
+use Rattle.store.proofs.Reading.{held_after, header_is, says, entity-table, bounds}
 use Rattle.store.proofs.Splices.{put, closed, whole_item}
-use Rattle.store.proofs.Putting.{Sums, sums, laid-three, laid-with, length-with, kept-with, laid-without, length_without, sizes-without, kept-without, Change, entity-change}
+use Rattle.store.proofs.Putting.{sums, laid-three, laid-with, length-with, kept-with, laid-without, length_without, sizes-without, kept-without, Change, entity-change}
 
 -- ---- among the entities
 module _ (m : List ℕ) (g : Good m) (h : Header) (k : Says (sections m) h) where

@@ -1,21 +1,21 @@
 -- The store as a policy comes or goes.
-use Rattle.std.proofs.Common.{◌≡◌, ℕ, ◌+◌, ◌-◌, ◌*◌, ◌/◌, ◌<◌, ◌≤◌, min, List, [], ◌∷◌, ◌++◌, length, get_or, take, drop, set, sym, refl, ap, ◌∙◌, subst, ap₂, arith}
+use Rattle.std.proofs.Common.{◌≡◌, ℕ, ◌+◌, ◌-◌, ◌<◌, ◌≤◌, min, List, [], ◌∷◌, ◌++◌, length, get_or, take, drop, set, sym, refl, ap, ◌∙◌, subst, ap₂, arith}
 use Rattle.std.proofs.lemmas.List.{length-append}
 use Rattle.spec.specs.Basics.{Text, insert, remove}
 use Rattle.laws.proofs.Stores.{ascending-insert, ascending-remove}
 use Rattle.copy.specs.Writing.{written}
-use Rattle.shelves.specs.Items.{Item, numbers, laid, items_at, id_key, IdIn, Shelf}
+use Rattle.shelves.specs.Items.{numbers, laid, items_at, id_key, IdIn, Shelf}
 use Rattle.shelves.specs.Spots.{there, before, here, behind, Place, Found, EntryAt, EntryOf}
 use Rattle.shelves.specs.declared.finding.Spot.{Spot}
 use Rattle.shelves.specs.declared.finding.Entry.{Entry}
 use Rattle.shelves.proofs.Walks.{fits-here, entry_here}
-use Rattle.store.specs.Sections.{Sections, size_of, policies_at, entities_at, used_of, table_at, header, layout, sections, Kept, Ordered, Good, Holds}
+use Rattle.store.specs.Sections.{Sections, policies_at, used_of, header, layout, sections, Ordered, Good, Holds}
 use Rattle.store.specs.Places.{header_row, Says, reopened}
-use Rattle.store.specs.Changes.{Begins, Comes, item, with_policies, with_policy, without_policy, PolicyRoom}
+use Rattle.store.specs.Changes.{Begins, Comes, item, with_policy, without_policy, PolicyRoom}
 use Rattle.store.specs.declared.layout.Header.{Header}
 use Rattle.store.proofs.Reading.{held_after, header_is, says, policy-shelf}
 use Rattle.store.proofs.Splices.{put, closed, whole_item}
-use Rattle.store.proofs.Putting.{Sums, sums, laid-three, laid-with, length-with, kept-with, laid-without, length_without, sizes-without, kept-without, Change, policy-change}
+use Rattle.store.proofs.Putting.{sums, laid-three, laid-with, length-with, kept-with, laid-without, length_without, sizes-without, kept-without, Change, policy-change}
 
 -- ---- among the policies
 module _ (m : List ℕ) (g : Good m) (h : Header) (k : Says (sections m) h) where

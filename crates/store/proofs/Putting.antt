@@ -1,16 +1,15 @@
 -- The items of a store as one comes or goes.
-use Rattle.std.proofs.Common.{◌≡◌, ℕ, ◌+◌, ◌-◌, ◌*◌, ◌/◌, ◌<◌, ◌≤◌, min, true, List, [], ◌∷◌, ◌++◌, length, take, drop, sym, refl, ap, ◌∙◌, subst, arith}
+use Rattle.std.proofs.Common.{◌≡◌, ℕ, ◌+◌, ◌*◌, ◌/◌, ◌≤◌, List, ◌∷◌, ◌++◌, length, sym, refl, ap, ◌∙◌, subst, arith}
 use Rattle.std.proofs.lemmas.List.{length-append}
-use Rattle.spec.specs.Basics.{Text, insert, remove, ascending}
-use Rattle.laws.proofs.Stores.{ascending-insert, ascending-remove}
+use Rattle.spec.specs.Basics.{Text, insert, remove}
 use Rattle.shelves.specs.Items.{Item, numbers, laid, sizes, IdIn, UidIn, Each}
 use Rattle.shelves.specs.Spots.{there, before, here, behind, Place, Found}
 use Rattle.shelves.specs.declared.finding.Spot.{Spot}
 use Rattle.shelves.proofs.Laid.{laid-append, sizes-append, each_append, each_take, each-drop}
 use Rattle.shelves.proofs.Spotted.{three}
 use Rattle.shelves.proofs.Offsets.{length-here}
-use Rattle.store.specs.Sections.{Sections, size_of, policies_at, entities_at, used_of, table_at, sections, Kept, Good}
-use Rattle.store.specs.Places.{Says, Bounds}
+use Rattle.store.specs.Sections.{size_of, policies_at, entities_at, table_at, sections, Kept, Good}
+use Rattle.store.specs.Places.{Says}
 use Rattle.store.specs.declared.layout.Header.{Header}
 use Rattle.store.proofs.Rooms.{bounded}
 use Rattle.store.proofs.Reading.{bounds}

@@ -1,10 +1,10 @@
 -- A store is read back as it was laid out; and memory in which a new one is laid out holds it.
-use Rattle.std.proofs.Common.{◌≡◌, ℕ, ◌+◌, ◌-◌, ◌*◌, ◌/◌, ◌≤◌, List, [], ◌∷◌, ◌++◌, length, get_or, take, drop, sym, refl, ap, ◌∙◌, subst, ap₂, append_assoc, arith}
+use Rattle.std.proofs.Common.{◌≡◌, ℕ, ◌+◌, ◌-◌, ◌≤◌, List, [], ◌∷◌, ◌++◌, length, get_or, take, drop, sym, refl, ap, ◌∙◌, subst, ap₂, arith}
 use Rattle.std.proofs.lemmas.List.{length-append, length-drop, drop-drop, drop_at, take_at}
 use Rattle.values.specs.Held.{part}
 use Rattle.shelves.specs.Items.{Item, laid, items_in, items_at, offsets, id_key, IdIn, uid_key, UidIn, Each, Shelf, Tabled}
 use Rattle.shelves.proofs.Laid.{read_back}
-use Rattle.store.specs.Sections.{Sections, size_of, policies_at, entities_at, used_of, table_at, store_numbers, header, layout, sections, Kept, Ordered, Held, Good, Holds}
+use Rattle.store.specs.Sections.{Sections, policies_at, entities_at, used_of, table_at, store_numbers, header, layout, sections, Kept, Ordered, Held, Good, Holds}
 use Rattle.store.specs.Places.{header_row, Says, Bounds}
 use Rattle.store.specs.declared.layout.Header.{Header}
 use Rattle.store.proofs.Rooms.{bounded, never-runs-out}

@@ -1,7 +1,7 @@
 -- What a store takes fits into its memory.
-use Rattle.std.proofs.Common.{◌≡◌, ℕ, ◌+◌, ◌*◌, ◌≤◌, List, [], ◌∷◌, ◌++◌, length, sym, refl, ap, ◌∙◌, arith}
+use Rattle.std.proofs.Common.{◌*◌, ◌≤◌, List, [], ◌∷◌, length, arith}
 use Rattle.std.proofs.lemmas.List.{length-append}
-use Rattle.shelves.specs.Items.{Item, numbers, laid, sizes, Each}
+use Rattle.shelves.specs.Items.{Item, laid, sizes, Each}
 use Rattle.store.specs.Sections.{Kept, MemoryNeverRunsOut}
 
 pub bounded : (KeyIn : Item → Type 0) (xs : List Item) → Each (Kept KeyIn) xs → (2 * length (laid xs) ≤ 9 * sizes xs) × (2 * length xs ≤ sizes xs)

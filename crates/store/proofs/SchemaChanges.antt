@@ -1,8 +1,8 @@
 -- The store as a schema comes in place of another.
-use Rattle.std.proofs.Common.{◌≡◌, ℕ, ◌+◌, ◌-◌, ◌*◌, ◌≤◌, List, [], ◌∷◌, ◌++◌, length, drop, sym, refl, ap, ◌∙◌, append_assoc, arith}
+use Rattle.std.proofs.Common.{◌≡◌, ℕ, ◌+◌, ◌-◌, ◌≤◌, List, [], ◌++◌, length, drop, sym, refl, ap, ◌∙◌, append_assoc, arith}
 use Rattle.copy.specs.Writing.{written}
 use Rattle.shelves.specs.Items.{laid, IdIn, UidIn}
-use Rattle.store.specs.Sections.{Sections, size_of, policies_at, entities_at, used_of, table_at, header, layout, sections, Ordered, Good, Holds}
+use Rattle.store.specs.Sections.{Sections, used_of, table_at, header, layout, sections, Ordered, Good}
 use Rattle.store.specs.Places.{header_row, Says, reopened}
 use Rattle.store.specs.Changes.{SchemaComes, item, with_schema, SchemaRoom}
 use Rattle.store.specs.declared.layout.Header.{Header}

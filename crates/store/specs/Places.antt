@@ -1,6 +1,5 @@
 -- The first numbers of a store. Assumes nothing: these are definitions.
 use Rattle.std.specs.Prelude.{◌≡◌, ℕ, ◌+◌, ◌*◌, ◌≤◌, List, [], ◌∷◌, ◌++◌, length, drop}
-use Rattle.shelves.specs.Items.{laid}
 use Rattle.shelves.specs.Moves.{moved}
 use Rattle.store.specs.Sections.{Sections, size_of, policies_at, entities_at, used_of, table_at}
 use Rattle.store.specs.declared.layout.Header.{Header}

@@ -1,7 +1,7 @@
 -- A store in memory: what stands in it, how it is laid out, and when memory is in order. Nothing is known here of policies and entities but that their rows
 -- begin with their keys. Assumes nothing: these are definitions.
 use Rattle.std.specs.Prelude.{◌≡◌, ℕ, ◌+◌, ◌-◌, ◌*◌, ◌/◌, ◌≤◌, true, List, [], ◌∷◌, ◌++◌, length, drop, slice_index}
-use Rattle.spec.specs.Basics.{Text, ascending}
+use Rattle.spec.specs.Basics.{ascending}
 use Rattle.spec.specs.Calls.{empty_store}
 use Rattle.rows.specs.Rows.{row_schema}
 use Rattle.values.specs.Held.{part}

@@ -1,11 +1,11 @@
 -- An attribute of a record type, looked for along the row.
-use Rattle.std.proofs.Common.{◌≡◌, ℕ, zero, suc, ◌+◌, ◌-◌, ◌<◌, ◌≤◌, Bool, true, false, cond, List, [], ◌∷◌, length, sym, refl, ap, ◌∙◌, subst, arith}
+use Rattle.std.proofs.Common.{◌≡◌, ℕ, ◌-◌, ◌<◌, ◌≤◌, Bool, true, false, cond, List, sym, refl, ap, ◌∙◌, arith}
 use mathlib.Core.Option.{Option, some, none}
 use Rattle.spec.specs.Basics.{Text, same, find, name, content, lookup}
 use Rattle.spec.specs.Types as s
 use Rattle.spec.specs.Types.{RecordType, attr, QualifiedType, attributes}
 use Rattle.values.specs.Held.{text_at}
-use Rattle.types.specs.Held.{name_at, required_at, attr_type_at, next_at, attrs_from, decode, Good, GoodFrom}
+use Rattle.types.specs.Held.{name_at, required_at, attr_type_at, next_at, attrs_from}
 use Rattle.types.specs.declared.nodes.CedarType.{CedarType}
 use Rattle.types.proofs.Walks.{above_zero}
 

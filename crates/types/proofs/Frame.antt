@@ -1,9 +1,8 @@
 -- What is made behind types, or before them, leaves what they stand for; stored types stand for the same whatever is made.
-use Rattle.std.proofs.Common.{◌≡◌, ℕ, zero, suc, ◌+◌, ◌-◌, ◌*◌, ◌<◌, ◌≤◌, Bool, true, false, cond, eqb, List, length, get_or, sym, refl, ap, ◌∙◌, subst, ap₂, arith}
-use Rattle.spec.specs.Types as s
-use Rattle.spec.specs.Types.{set, record_of, attr, RecordType}
+use Rattle.std.proofs.Common.{◌≡◌, ℕ, zero, suc, ◌+◌, ◌-◌, ◌*◌, ◌<◌, ◌≤◌, Bool, true, false, cond, eqb, List, get_or, sym, refl, ap, ◌∙◌, subst, ap₂, arith}
+use Rattle.spec.specs.Types.{set, record_of, attr}
 use Rattle.values.specs.Held.{text_at, TextIn}
-use Rattle.types.specs.Held.{bool_by, type_by, row_type_at, made_at, attr_type_at, name_at, required_at, next_at, attrs_from, attrs_at, plain, plain_attrs, decode, AttrIn, GoodFrom, Good, sum_to, made_attr_at, made}
+use Rattle.types.specs.Held.{bool_by, type_by, row_type_at, made_at, attr_type_at, name_at, required_at, next_at, attrs_from, plain, plain_attrs, decode, GoodFrom, Good, sum_to, made_attr_at, made}
 use Rattle.types.specs.declared.nodes.CedarType.{CedarType}
 use Rattle.types.specs.declared.nodes.CedarType.TheVariants.{Bool as B, Int, String, Entity, Set, Record, MadeSet, MadeRecord}
 

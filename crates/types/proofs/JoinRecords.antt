@@ -1,9 +1,9 @@
 -- The least record above two that were made: attribute by attribute, each made behind the node.
-use Rattle.std.proofs.Common.{◌≡◌, ℕ, zero, suc, ◌+◌, ◌-◌, ◌*◌, ◌<◌, ◌≤◌, Bool, true, false, cond, ◌&&◌, ◌⊎◌, List, length, get_or, set as put, sym, refl, ap, ◌∙◌, subst, ap₂, inl, inr, add-one, arith, get_or-set_other, get_or-set_same, below_more}
+use Rattle.std.proofs.Common.{◌≡◌, ℕ, zero, suc, ◌+◌, ◌*◌, ◌<◌, ◌≤◌, Bool, true, false, cond, ◌&&◌, List, length, get_or, set as put, sym, refl, ap, ◌∙◌, subst, ap₂, inl, inr, add-one, arith, get_or-set_other, get_or-set_same, below_more}
 use mathlib.Core.Option.{Option, some, none}
 use Rattle.std.proofs.lemmas.Bool.{and_parts, cases_eq}
 use Rattle.std.proofs.lemmas.List.{length-set}
-use Rattle.laws.proofs.Texts.{false-true, none-some, same_true}
+use Rattle.laws.proofs.Texts.{false-true}
 use Rattle.spec.specs.Basics.{is_some, same}
 use Rattle.spec.specs.Types as s
 use Rattle.spec.specs.Types.{record_of, RecordType, empty, attr, lub_attr, lub_record, lub, lub_attrs}

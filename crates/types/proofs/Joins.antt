@@ -1,18 +1,17 @@
 -- The least type above two, where nothing is made, and where a set or a record is.
-use Rattle.std.proofs.Common.{◌≡◌, ℕ, zero, suc, ◌+◌, ◌-◌, ◌*◌, ◌<◌, ◌≤◌, Bool, true, false, cond, ◌&&◌, ◌⊎◌, List, length, get_or, sym, refl, ap, ◌∙◌, subst, ap₂, inl, inr, arith}
+use Rattle.std.proofs.Common.{◌≡◌, ℕ, suc, ◌+◌, ◌≤◌, true, false, List, length, sym, refl, ap, ◌∙◌, subst, ap₂, arith}
 use mathlib.Core.Option.{Option, some, none}
 use Rattle.std.proofs.lemmas.Bool.{and_parts}
-use Rattle.laws.proofs.Texts.{false-true, none-some, same_refl}
-use Rattle.laws.proofs.Lubs.{Lub, bools, ints, strings, entities, sets, records, LubAttrs, nones, mores, lub-rel, rel-lub, swap}
-use Rattle.spec.specs.Basics.{is_some, same}
+use Rattle.laws.proofs.Texts.{false-true}
+use Rattle.laws.proofs.Lubs.{Lub, bools, ints, strings, entities, sets, records, LubAttrs, nones, mores, lub-rel, swap}
+use Rattle.spec.specs.Basics.{is_some}
 use Rattle.spec.specs.Types as s
 use Rattle.spec.specs.Types.{any_bool, is_true, is_false, bool, int, string, entity, set, record_of, RecordType, empty, attr, lub_set, lub, lub_attrs}
-use Rattle.values.specs.Held.{text_at, TextIn}
-use Rattle.types.specs.Held.{made_at, plain, plain_attrs, decode, Good, sum_to, made_attr_at, made}
-use Rattle.types.specs.Joining.{Keeps, Laid, LaidAttr, Joined}
+use Rattle.types.specs.Held.{made_at, plain, plain_attrs, decode, Good, made}
+use Rattle.types.specs.Joining.{Laid, Joined}
 use Rattle.types.specs.declared.nodes.CedarType.{CedarType}
 use Rattle.types.specs.declared.nodes.CedarType.TheVariants.{Bool as B, Int, String, Entity, Set, Record, MadeSet, MadeRecord}
-use Rattle.types.proofs.Frame.{Stored, anywhere, kept, wider}
+use Rattle.types.proofs.Frame.{Stored, anywhere, kept}
 
 -- ---- a type with truths of either kind is its own least type above
 mutual

@@ -1,16 +1,15 @@
 -- Rows of types mean the types that they were made from, wherever they lie.
 use Rattle.std.proofs.Common.{◌≡◌, ℕ, zero, suc, ◌+◌, ◌-◌, ◌<◌, ◌≤◌, Bool, true, false, cond, ◌&&◌, eqb, List, [], ◌∷◌, ◌++◌, length, get_or, sym, refl, ap, ◌∙◌, subst, ap₂, arith}
 use Rattle.std.proofs.lemmas.Bool.{and_parts}
-use Rattle.std.proofs.lemmas.List.{length-append}
 use Rattle.laws.proofs.Texts.{false-true}
-use Rattle.spec.specs.Basics.{Text, ascending, name}
+use Rattle.spec.specs.Basics.{ascending, name}
 use Rattle.spec.specs.Values.{code_text}
 use Rattle.spec.specs.Types as s
 use Rattle.spec.specs.Types.{any_bool, is_true, is_false, bool, int, string, entity, set, record_of, RecordType, empty, attr, attributes, Schema}
 use Rattle.spec.specs.Validate.{well_formed_type, well_formed_attrs}
 use Rattle.spec.specs.Calls.{encodable_type, encodable_record_type, is_bytes, level}
 use Rattle.rows.specs.Rows.{row_type, row_types, row_record_type, count_types}
-use Rattle.values.specs.Held.{text_at, TextIn, behind_text}
+use Rattle.values.specs.Held.{behind_text}
 use Rattle.values.specs.Stored.{LiesAt}
 use Rattle.values.proofs.Placed.{Lies, lies, lies-move, lies-append, lies-long, text-lies}
 use Rattle.types.specs.Held.{bool_by, row_type_at, behind_row, attrs_from, plain, plain_attrs, decode, TypeRowIn, GoodFrom, Good}

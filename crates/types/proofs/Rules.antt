@@ -6,8 +6,8 @@ use Rattle.spec.specs.Basics.{is_some, Text, same, Text-discrete}
 use mathlib.Core.Bool.{Bool-discrete}
 use Rattle.spec.specs.Types.{BoolType, any_bool, is_true, is_false, CedarType, bool, int, string, entity, set, record_of, RecordType, empty, attr, same_bool, lub_bool, lub_set, lub_record, lub_attr, lub, lub_attrs, is_that, subty, same_type, BoolType-discrete, CedarType-discrete}
 use Rattle.laws.proofs.Texts.{false-true, bool_same, yes_true, true-yes, same_true, same_refl}
-use Rattle.laws.proofs.Lubs.{Lub, bools, ints, strings, entities, sets, records, LubAttrs, nones, mores, rel-lub, rel-lub-attrs}
-use Rattle.types.specs.Matching.{same_bool_type, match_bool, match_type, match_attrs, RulesTell}
+use Rattle.laws.proofs.Lubs.{Lub, bools, ints, strings, entities, sets, records, LubAttrs, nones, mores, rel-lub}
+use Rattle.types.specs.Matching.{same_bool_type, match_type, match_attrs, RulesTell}
 use Rattle.types.specs.declared.matching.Rule.{Rule}
 use Rattle.types.specs.declared.matching.Rule.TheVariants.{Joins, Below, Same}
 

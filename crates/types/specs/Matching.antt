@@ -4,8 +4,6 @@ use Rattle.std.specs.Prelude.{◌≡◌, Bool, true, false, ◌&&◌}
 use Rattle.spec.specs.Basics.{is_some, same}
 use Rattle.spec.specs.Types as s
 use Rattle.spec.specs.Types.{any_bool, is_true, is_false, bool, int, string, entity, set, record_of, RecordType, empty, attr, same_bool, lub_bool, lub, subty, same_type}
-use Rattle.types.specs.declared.nodes.BoolType.{BoolType}
-use Rattle.types.specs.declared.nodes.BoolType.TheVariants.{Any, True, False}
 use Rattle.types.specs.declared.matching.Rule.{Rule}
 use Rattle.types.specs.declared.matching.Rule.TheVariants.{Joins, Below, Same}
 

@@ -1,6 +1,6 @@
 -- Answers read off their bytes. Assumes nothing: these are definitions.
 use Rattle.std.specs.Prelude.{◌≡◌, ℕ, zero, suc, Bool, true, false, ◌&&◌, List, [], ◌∷◌, length}
-use Rattle.std.proofs.Math.Option.{Option, some, none}
+use Rattle.std.proofs.Math.Option.{Option, none}
 use Rattle.spec.specs.Basics.{Text, all}
 use Rattle.spec.specs.Policies.{Decision, allow, deny, Response}
 use Rattle.spec.specs.Typecheck.{lub_err, unexpected_type, attr_not_found, tag_not_found, unknown_entity, empty_set_err}

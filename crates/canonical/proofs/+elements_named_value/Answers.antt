@@ -1,4 +1,4 @@
-use Rattle.std.proofs.Common.{◌≡◌, ℕ, ◌+◌, ◌-◌, ◌<◌, drop, refl, ap, ◌∙◌, arith}
+use Rattle.std.proofs.Common.{◌≡◌, ℕ, ◌+◌, ◌<◌, drop, refl, ap, ◌∙◌, arith}
 use Rattle.spec.specs.Basics.{Text, name}
 use Rattle.spec.specs.Bytes.{Bytes, encode_value}
 use Rattle.spec.specs.Values.{Value, set, record_of, to_values, to_attrs}

@@ -7,7 +7,6 @@ use Rattle.entities.specs.Code.{AnswersOf2}
 use Rattle.spec.specs.Values as s
 use Rattle.exprs.specs.Stored.{op_of}
 use Rattle.exprs.specs.declared.BinaryOp.{BinaryOp}
-use Rattle.exprs.specs.declared.BinaryOp.TheVariants as BinaryOp
 use Rattle.evaluator.proofs.apply.apply_binary.Goals as goal
 
 by-op : (h : ℕ) (m : List ℕ) (es : s.Entities) (v w : Value) (r : Result Value EvalError) (o k : BinaryOp) → o ≡ k → AnswersOf2 h m es (op_of k) v w r → AnswersOf2 h m es (op_of o) v w r

@@ -1,4 +1,4 @@
-use Rattle.std.proofs.Common.{Ok, ◌∙◌, subst}
+use Rattle.std.proofs.Common.{Ok, subst}
 use Rattle.spec.specs.Basics.{ok}
 use Rattle.spec.specs.Evaluate.{of_bool}
 use Rattle.operators.specs.Code.{Says}

@@ -1,7 +1,6 @@
 -- The cycle of the evaluator, function by function.
-use Rattle.std.proofs.Common.{◌≡◌, ℕ, suc, ◌+◌, ◌-◌, ◌*◌, ◌<◌, ◌≤◌, true, false, List, ◌++◌, length, get_or, take, drop, Ok, Err, sym, refl, ap, ◌∙◌, subst, ap₂, arith, length-take}
+use Rattle.std.proofs.Common.{◌≡◌, suc, ◌+◌, ◌-◌, ◌*◌, ◌≤◌, true, false, ◌++◌, length, take, Ok, Err, sym, refl, ap, ◌∙◌, subst, arith, length-take}
 use Rattle.std.proofs.lemmas.List.{length-append, length-take-le, take-take}
-use Rattle.spec.specs.Basics.{ok, error, ◌>>=◌}
 use Rattle.spec.specs.Exprs.{ite, and, or}
 use Rattle.spec.specs.Evaluate.{just_bool, apply2, evaluate}
 use Rattle.values.specs.Held.{decode}

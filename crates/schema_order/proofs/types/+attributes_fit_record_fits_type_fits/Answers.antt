@@ -1,4 +1,4 @@
-use Rattle.std.proofs.Common.{◌+◌, ◌-◌, sym, refl, ap, ◌∙◌, arith}
+use Rattle.std.proofs.Common.{◌+◌, sym, refl, ap, ◌∙◌, arith}
 use Rattle.spec.specs.Validate.{well_formed_type}
 use Rattle.wire.specs.Grammar.{type, read_node}
 use Rattle.schema_order.specs.declared.lists.Listed.TheVariants.{Attributes}

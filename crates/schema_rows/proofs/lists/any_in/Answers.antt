@@ -1,4 +1,4 @@
-use Rattle.std.proofs.Common.{◌≡◌, sym, ap, ◌∙◌, subst}
+use Rattle.std.proofs.Common.{sym, ap, ◌∙◌, subst}
 use Rattle.schema_rows.specs.Lists.{next_by, PartIn, part_of, tests}
 use Rattle.schema_rows.proofs.Steps.{all_here, all-next, any_here, any-on}
 use Rattle.schema_rows.proofs.lists.any_in.Goals as goal

@@ -1,4 +1,4 @@
-use Rattle.std.proofs.Common.{◌≡◌, ◌+◌, get_or}
+use Rattle.std.proofs.Common.{◌≡◌}
 use Rattle.spec.specs.Basics.{any}
 use Rattle.schema_rows.specs.Lists.{list_from, list_at, AllFrom, next_by, PartIn, part_of, tests}
 use Rattle.schema_rows.proofs.lists.any_in.Given as goal

@@ -1,4 +1,4 @@
-use Rattle.std.proofs.Common.{◌≡◌, ◌+◌, get_or}
+use Rattle.std.proofs.Common.{◌≡◌}
 use Rattle.schema_rows.specs.Lists.{past, AllFrom, behind_list, next_by, PartIn}
 use Rattle.schema_rows.proofs.lists.skip_list.Given as goal
 

@@ -1,6 +1,6 @@
 use Rattle.std.proofs.Common.{sym, refl, ap, ◌∙◌, subst}
 use Rattle.schema_rows.specs.Lists.{behind_list, ListIn, PartIn, next_by}
-use Rattle.schema_rows.specs.Schemas.{action_resources, action_ancestors, action_context}
+use Rattle.schema_rows.specs.Schemas.{action_context}
 use Rattle.schema_rows.specs.declared.lists.Part.TheVariants.{Text as T, Uid, Attr}
 use Rattle.schema_rows.proofs.Places.{attrs-list}
 use Rattle.schema_rows.proofs.schemas.action_at.Goals as goal

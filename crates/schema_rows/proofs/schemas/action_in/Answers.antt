@@ -1,12 +1,11 @@
-use Rattle.std.proofs.Common.{◌≡◌, ◌+◌, ◌||◌, get_or, sym, ap, ◌∙◌, subst}
+use Rattle.std.proofs.Common.{◌+◌, ◌||◌, get_or, sym, ap, ◌∙◌, subst}
 use Rattle.spec.specs.Basics.{any}
 use Rattle.spec.specs.Types.{find_action}
 use Rattle.spec.specs.Typecheck.{action_ancestors}
 use Rattle.spec.specs.Values.{same_uid}
 use Rattle.values.specs.Held.{uid_at}
-use Rattle.schema_rows.specs.Lists.{list_at, behind_uid, tests, UIDsIn}
+use Rattle.schema_rows.specs.Lists.{list_at, behind_uid, UIDsIn}
 use Rattle.schema_rows.specs.Schemas.{schema_of}
-use Rattle.schema_rows.specs.declared.lists.Test.TheVariants.{SameUid}
 use Rattle.schema_rows.proofs.Steps.{any-places}
 use Rattle.schema_rows.proofs.schemas.action_in.Goals as goal
 

@@ -1,9 +1,9 @@
-use Rattle.std.proofs.Common.{◌≡◌, ◌+◌, ◌&&◌, ◌||◌, get_or, sym, ap, ◌∙◌, subst}
+use Rattle.std.proofs.Common.{◌+◌, ◌||◌, get_or, sym, ap, ◌∙◌, subst}
 use Rattle.spec.specs.Basics.{any, same, is_some}
 use Rattle.spec.specs.Types.{find_entity_type}
 use Rattle.spec.specs.Typecheck.{ancestor_types}
 use Rattle.values.specs.Held.{text_at, behind_text}
-use Rattle.schema_rows.specs.Lists.{list_at, tests, TextsIn}
+use Rattle.schema_rows.specs.Lists.{list_at, TextsIn}
 use Rattle.schema_rows.specs.Schemas.{schema_of, seeks}
 use Rattle.schema_rows.specs.declared.schemas.Seek.TheVariants.{Below}
 use Rattle.schema_rows.proofs.Steps.{any-places}

@@ -1,4 +1,4 @@
-use Rattle.std.proofs.Common.{◌≡◌, ◌+◌, get_or, sym, ap, ◌∙◌, arith}
+use Rattle.std.proofs.Common.{sym, ap, ◌∙◌, arith}
 use Rattle.spec.specs.Basics.{same}
 use Rattle.spec.specs.Types.{entity_type_key}
 use Rattle.values.specs.Held.{text_at}

@@ -1,5 +1,5 @@
-use Rattle.std.proofs.Common.{◌≡◌, sym, ap, ◌∙◌, subst, arith}
-use Rattle.schema_rows.specs.Schemas.{ActionIn, ActionIs, action_at, behind_action, seeks, first_that}
+use Rattle.std.proofs.Common.{sym, ap, ◌∙◌, subst}
+use Rattle.schema_rows.specs.Schemas.{ActionIn, ActionIs, action_at, behind_action, seeks}
 use Rattle.schema_rows.proofs.Steps.{all_here, all-next}
 use Rattle.schema_rows.proofs.Places.{first-here, first_on, action-found}
 use Rattle.schema_rows.proofs.schemas.first_action.Goals as goal

@@ -1,4 +1,4 @@
-use Rattle.std.proofs.Common.{◌≡◌, ◌+◌, ◌&&◌, get_or, sym, ap, ◌∙◌, subst}
+use Rattle.std.proofs.Common.{◌+◌, ◌&&◌, get_or, sym, ap, ◌∙◌, subst}
 use Rattle.spec.specs.Basics.{any, same}
 use Rattle.values.specs.Held.{text_at, uid_at}
 use Rattle.schema_rows.specs.Lists.{list_at, behind_uid, tests, UIDsIn}

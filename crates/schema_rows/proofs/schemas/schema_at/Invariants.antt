@@ -1,10 +1,6 @@
 use Rattle.std.proofs.Common.{◌≡◌}
-use Rattle.spec.specs.Types as s
-use Rattle.spec.specs.Types.{entity_type_key}
-use Rattle.spec.specs.Basics.{same}
-use Rattle.values.specs.Held.{text_at}
-use Rattle.schema_rows.specs.Lists.{list_from, past, AllFrom}
-use Rattle.schema_rows.specs.Schemas.{EntryIn, entry_at, behind_entry, entries_at, ActionIn, action_at, behind_action, actions_at, schema_actions, seeks, first_that}
+use Rattle.schema_rows.specs.Lists.{past, AllFrom}
+use Rattle.schema_rows.specs.Schemas.{EntryIn, behind_entry, schema_actions}
 use Rattle.schema_rows.proofs.schemas.schema_at.Given as goal
 
 -- what is left gives what all gives

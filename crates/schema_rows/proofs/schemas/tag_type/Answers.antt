@@ -1,9 +1,9 @@
 use Rattle.std.proofs.Common.{◌≡◌, ℕ, suc, ◌+◌, ◌<◌, [], get_or, sym, refl, ap, ◌∙◌, subst, arith}
 use mathlib.Core.Option.{some}
 use Rattle.spec.specs.Basics.{first}
-use Rattle.types.specs.Held.{row_type_at, behind_row, TypeRowIn, Good, decode}
+use Rattle.types.specs.Held.{behind_row, Good, decode}
 use Rattle.schema_rows.specs.Lists.{list_at}
-use Rattle.schema_rows.specs.Schemas.{type_depth, type_at, TypeIn, TypesIn, TagFound, entry_tags}
+use Rattle.schema_rows.specs.Schemas.{type_depth, type_at, TypeIn, TypesIn}
 use Rattle.schema_rows.proofs.Steps.{all_here, list-step}
 use Rattle.schema_rows.proofs.schemas.tag_type.Goals as goal
 

@@ -3,7 +3,7 @@ use Rattle.values.specs.Held.{text_at, TextIn}
 use Rattle.values.specs.Order.{order_row}
 use Rattle.values.specs.declared.ordering.Order.{Order}
 use Rattle.shelves.specs.Items.{Item, items_at, id_key, IdIn, Shelf}
-use Rattle.shelves.proofs.Laid.{Lies, place_of}
+use Rattle.shelves.proofs.Laid.{place_of}
 use Rattle.shelves.proofs.Walks.{Going, one, lies, one_in, less-here, greater-here, next_here, going, new-here, none_left, there-here, id-lies}
 use Rattle.shelves.proofs.finding.find_by_text.Goals as goal
 

@@ -1,4 +1,4 @@
-use Rattle.std.proofs.Common.{◌≡◌, ℕ, ◌+◌, ◌-◌, ◌/◌, ◌<◌, ◌≤◌, List, ◌++◌, length, take, drop, sym, refl, ap, ◌∙◌, subst, arith}
+use Rattle.std.proofs.Common.{◌≡◌, ℕ, ◌+◌, ◌-◌, ◌/◌, ◌<◌, ◌≤◌, List, ◌++◌, length, drop, sym, refl, ap, ◌∙◌, subst, arith}
 use Rattle.std.proofs.lemmas.List.{take_all}
 use Rattle.spec.specs.Values.{code_uid}
 use Rattle.laws.proofs.Keyed.{Before}
@@ -7,8 +7,8 @@ use Rattle.values.specs.Order.{order_row, order_uid}
 use Rattle.values.specs.declared.ordering.Order.{Order}
 use Rattle.values.proofs.Orders.{by-uid}
 use Rattle.shelves.specs.Items.{Item, laid, items_at, uid_key, UidIn, Shelf}
-use Rattle.shelves.proofs.Laid.{Lies, place_of, length-items}
-use Rattle.shelves.proofs.Walks.{many, one, lies, one_in, less-here, under-here, greater-here, going, new-here, none_left, there-here, uid-lies}
+use Rattle.shelves.proofs.Laid.{place_of, length-items}
+use Rattle.shelves.proofs.Walks.{one, lies, one_in, less-here, under-here, greater-here, going, new-here, none_left, there-here, uid-lies}
 use Rattle.shelves.proofs.finding.find_by_uid.Goals as goal
 
 abbrev t : List ℕ → List ℕ → ℕ → List ℕ

@@ -1,4 +1,4 @@
-use Rattle.std.proofs.Common.{◌+◌, ◌<◌, length, arith, rules}
+use Rattle.std.proofs.Common.{◌+◌, ◌<◌, length, rules}
 use Rattle.shelves.specs.Items.{uid_key, UidIn}
 use Rattle.shelves.proofs.Walks.{table_fits, table_is, place-fits}
 use Rattle.shelves.proofs.finding.place_at.Goals as goal

@@ -1,4 +1,4 @@
-use Rattle.std.proofs.Common.{ℕ, ◌+◌, ◌-◌, ◌^◌, ◌<◌, ◌≤◌, arith}
+use Rattle.std.proofs.Common.{◌+◌, ◌^◌, ◌<◌, ◌≤◌, arith}
 use Rattle.shelves.proofs.Tables.{with-is, with-holds}
 use Rattle.shelves.proofs.moving.insert_place.Goals as goal
 

@@ -1,4 +1,4 @@
-use Rattle.std.proofs.Common.{ℕ, ◌+◌, ◌-◌, ◌^◌, ◌<◌, ◌≤◌, arith}
+use Rattle.std.proofs.Common.{◌+◌, ◌^◌, ◌<◌, ◌≤◌, arith}
 use Rattle.shelves.proofs.Tables.{without_is, without-holds}
 use Rattle.shelves.proofs.moving.remove_place.Goals as goal
 

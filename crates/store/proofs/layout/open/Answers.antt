@@ -1,7 +1,7 @@
-use Rattle.std.proofs.Common.{◌≡◌, ℕ, ◌+◌, ◌*◌, ◌≤◌, List, [], ◌∷◌, ◌++◌, length, drop, set, sym, refl, ap, ◌∙◌, subst, arith}
+use Rattle.std.proofs.Common.{◌≡◌, ℕ, ◌≤◌, List, [], ◌∷◌, ◌++◌, length, drop, set, sym, refl, ap, ◌∙◌, subst, arith}
 use Rattle.std.proofs.lemmas.List.{length-drop, drop-drop}
 use Rattle.spec.specs.Basics.{ascending}
-use Rattle.store.specs.Sections.{header, layout, empty, table_at, store_numbers, Ordered, Holds}
+use Rattle.store.specs.Sections.{header, empty, table_at, store_numbers, Ordered, Holds}
 use Rattle.store.proofs.Reading.{held_after}
 use Rattle.store.proofs.layout.open.Goals as goal
 

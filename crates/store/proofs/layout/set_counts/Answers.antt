@@ -1,5 +1,5 @@
-use Rattle.std.proofs.Common.{◌≡◌, ℕ, ◌+◌, ◌*◌, ◌≤◌, List, ◌++◌, length, drop, set, sym, refl, ap, ◌∙◌, arith}
-use Rattle.store.specs.Sections.{Sections, sections, layout, used_of, Ordered, Good, Holds}
+use Rattle.std.proofs.Common.{ℕ, List, set, sym, ap, ◌∙◌}
+use Rattle.store.specs.Sections.{Sections, sections, layout, Ordered, Good, Holds}
 use Rattle.store.specs.Changes.{with_counts}
 use Rattle.store.proofs.Reading.{held_after, rest_at}
 use Rattle.store.proofs.layout.set_counts.Goals as goal

@@ -1,4 +1,4 @@
-use Rattle.std.proofs.Common.{◌≡◌, ◌+◌, ◌-◌, length, sym, ap, ◌∙◌, subst, arith}
+use Rattle.std.proofs.Common.{◌+◌, ◌-◌, length, sym, ap, ◌∙◌, subst, arith}
 use Rattle.values.specs.Held.{text_at, TextIn}
 use Rattle.types.specs.Held.{decode, Good, GoodFrom}
 use Rattle.types.proofs.Walks.{good-step, name_in}

@@ -1,9 +1,8 @@
-use Rattle.std.proofs.Common.{◌≡◌, ℕ, suc, ◌+◌, ◌*◌, ◌≤◌, true, length, get_or, sym, refl, ap, ◌∙◌, subst, arith}
+use Rattle.std.proofs.Common.{◌≡◌, suc, ◌+◌, ◌≤◌, true, length, get_or, sym, refl, ap, subst, arith}
 use Rattle.spec.specs.Basics.{is_some}
 use Rattle.spec.specs.Types.{lub}
 use Rattle.types.specs.Held.{decode, Good, made}
 use Rattle.types.specs.Joining.{Joined}
-use Rattle.types.specs.declared.nodes.CedarType.TheVariants.{MadeSet, MadeRecord}
 use Rattle.types.proofs.Walks.{under}
 use Rattle.types.proofs.Joins.{first-stays, second-stays-set, second-stays-record, set-joined}
 use Rattle.types.proofs.JoinRecords.{turn, again, whole}

@@ -1,4 +1,4 @@
-use Rattle.std.proofs.Common.{◌≡◌, length, sym, refl, ◌∙◌, arith}
+use Rattle.std.proofs.Common.{length, sym, refl, ◌∙◌, arith}
 use Rattle.spec.specs.Types as s
 use Rattle.types.specs.Held.{decode}
 use Rattle.types.proofs.Frame.{wider}

@@ -1,8 +1,8 @@
-use Rattle.std.proofs.Common.{◌≡◌, ℕ, ◌+◌, ◌-◌, List, length, sym, ap, ◌∙◌, subst, ap₂, arith}
+use Rattle.std.proofs.Common.{◌+◌, ◌-◌, length, sym, ap, ◌∙◌, subst, ap₂, arith}
 use Rattle.values.specs.Held.{TextIn}
-use Rattle.types.specs.Held.{decode, Good, count_at, AttrIn, attr_type_at, GoodFrom, next_at}
+use Rattle.types.specs.Held.{decode, Good, count_at, GoodFrom}
 use Rattle.types.specs.Matching.{match_type}
-use Rattle.types.proofs.Walks.{under, good-step, name_in, left, match_none, match-counts, no_name, no-required, no-type, all_same}
+use Rattle.types.proofs.Walks.{under, good-step, name_in, left, match-counts, no_name, no-required, no-type, all_same}
 use Rattle.types.proofs.matching.+match_attrs_match_element_match_kind_match_record_match_types.Goals as goal
 
 pub match_attrs-returns-then-left-count : goal.match_attrs-returns-then-left-count

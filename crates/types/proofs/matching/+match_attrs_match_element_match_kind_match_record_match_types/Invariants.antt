@@ -1,4 +1,4 @@
-use Rattle.std.proofs.Common.{◌≡◌, ℕ, ◌+◌, ◌*◌, length}
+use Rattle.std.proofs.Common.{◌≡◌, ◌+◌, ◌*◌, length}
 use Rattle.types.specs.Held.{decode, attrs_from, attrs_at, Good, GoodFrom}
 use Rattle.types.specs.Matching.{match_attrs}
 use Rattle.types.proofs.matching.+match_attrs_match_element_match_kind_match_record_match_types.Given as goal
