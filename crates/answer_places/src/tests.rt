@@ -8,9 +8,9 @@ fn short_answers(rt: HostRuntime) {
     assert_eq!(rt; write(&[], &[], refused, &mut out), Some(10));
     assert_eq!(rt; &out, b"\0\x05\0\0\0\0\0\0\x01\x04\x09\x09");
     assert_eq!(rt; write(&[], &[], Answer::Done, &mut out), Some(1));
-    assert_eq!(rt; &out[..2], b"\x01\x05");
+    assert_eq!(rt; &out[..2], b"\x01\x05".as_slice());
     assert_eq!(rt; write(&[], &[], Answer::AllValid, &mut out), Some(1));
-    assert_eq!(rt; &out[..2], b"\x02\x05");
+    assert_eq!(rt; &out[..2], b"\x02\x05".as_slice());
 }
 
 #[test]

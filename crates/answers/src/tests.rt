@@ -13,9 +13,9 @@ fn short_answers(rt: HostRuntime) {
     );
     assert_eq!(rt; &out, b"\0\x05\0\0\0\0\0\0\x01\x04\x09\x09");
     assert_eq!(rt; write_done(&mut out), Some(1));
-    assert_eq!(rt; &out[..2], b"\x01\x05");
+    assert_eq!(rt; &out[..2], b"\x01\x05".as_slice());
     assert_eq!(rt; write_all_valid(&mut out), Some(1));
-    assert_eq!(rt; &out[..2], b"\x02\x05");
+    assert_eq!(rt; &out[..2], b"\x02\x05".as_slice());
 }
 
 #[test]

@@ -3,19 +3,19 @@ use Rattle.operators.proofs.Examples.{the-set}
 use Rattle.operators.proofs.tests.a_stored_set.Goals as goal
 
 pub contains-requires : goal.contains-requires
-contains-requires c = record { small = omega arith; left = the-set; right = tt }
+contains-requires g c = record { small = omega arith; left = the-set; right = tt }
 
 pub contains-requires-2 : goal.contains-requires-2
-contains-requires-2 c = record { small = omega arith; left = the-set; right = tt }
+contains-requires-2 g c = record { small = omega arith; left = the-set; right = tt }
 
-pub contains-all-requires : goal.contains-all-requires
-contains-all-requires c = record { small = omega arith; left = the-set; right = the-set }
+pub contains_all-requires : goal.contains_all-requires
+contains_all-requires g c = record { small = omega arith; left = the-set; right = the-set }
 
-pub contains-any-requires : goal.contains-any-requires
-contains-any-requires c = record { small = omega arith; left = the-set; right = the-set }
+pub contains_any-requires : goal.contains_any-requires
+contains_any-requires g c = record { small = omega arith; left = the-set; right = the-set }
 
-pub contains-any-requires-2 : goal.contains-any-requires-2
-contains-any-requires-2 c = record { small = omega arith; left = the-set; right = tt }
+pub contains_any-requires-2 : goal.contains_any-requires-2
+contains_any-requires-2 g c = record { small = omega arith; left = the-set; right = tt }
 
-pub is-empty-requires : goal.is-empty-requires
-is-empty-requires c = record { small = omega arith; good = the-set }
+pub is_empty-requires : goal.is_empty-requires
+is_empty-requires g c = record { small = omega arith; good = the-set }
