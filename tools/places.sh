@@ -1,7 +1,7 @@
 #!/bin/sh
 # Counts the places that docs/DESIGN-PASS.md speaks of: run at the top of the repository, it prints one line a kind, and with -l the places themselves.
 list=$1
-src=$(find crates -path '*/src/*.rt' | sort)
+src=$(find crates/*/src -name '*.rt' | sort)
 places() {
     name=$1
     shift
@@ -45,5 +45,5 @@ places 'pieces by their ends' '\b(a_end|b_end): usize|Piece \{|: Piece\b'
 # Point 7.
 places 'which step by an enum' 'enum (Test|Seek|Rule|Listed|Part|Step|Unary)\b'
 # Point 8.
-echo "lines of proofs: $(find crates -path '*/proofs/*.antt' | xargs cat | wc -l)"
-echo "lines of answers: $(find crates -path '*/proofs/*' -name Answers.antt | xargs cat | wc -l)"
+echo "lines of proofs: $(find crates/*/proofs -name '*.antt' | xargs cat | wc -l)"
+echo "lines of answers: $(find crates/*/proofs -name Answers.antt | xargs cat | wc -l)"

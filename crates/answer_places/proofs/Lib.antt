@@ -1,3 +1,2 @@
 -- Lemmas of this crate, each file after those that it uses.
-mod Writes
 mod Lists

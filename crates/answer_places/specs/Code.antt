@@ -1,41 +1,14 @@
 -- What each case of the code's enums says, in a memory that holds the ids.
 use Rattle.std.specs.Prelude.{◌≡◌, ℕ, ◌+◌, ◌<◌, ◌≤◌, true, List, map, length, slice_index}
 use Rattle.spec.specs.Basics.{Text}
-use Rattle.spec.specs.Policies.{Decision, allow, deny, Response}
-use Rattle.spec.specs.Typecheck.{lub_err, unexpected_type, attr_not_found, tag_not_found, unknown_entity, empty_set_err}
-use Rattle.spec.specs.Validate.{ValidationError, type_error, impossible_policy}
-use Rattle.spec.specs.Calls.{Refusal, not_a_call, inadmissible, schema_not_well_formed, not_found, over_capacity, Answer, refused, done, all_valid, not_valid, authorized, all_below}
+use Rattle.spec.specs.Policies.{Response}
+use Rattle.spec.specs.Calls.{Answer, refused, done, all_valid, not_valid, authorized, all_below}
 use Rattle.values.specs.Held.{part, text_at, TextIn}
-use Rattle.answer_places.specs.declared.codes.Refusal.{Refusal as RefusalCode}
-use Rattle.answer_places.specs.declared.codes.Refusal.TheVariants.{NotACall, Inadmissible, SchemaNotWellFormed, NotFound, OverCapacity}
-use Rattle.answer_places.specs.declared.codes.Why.{Why}
-use Rattle.answer_places.specs.declared.codes.Why.TheVariants.{IncompatibleTypes, UnexpectedType, AttributeNotFound, TagNotFound, UnknownEntity, EmptySet, NeverTrue}
-use Rattle.answer_places.specs.declared.codes.Decision.{Decision as DecisionCode}
-use Rattle.answer_places.specs.declared.codes.Decision.TheVariants.{Deny, Allow}
+use Rattle.answers.specs.Code.{refusal_of, why_of, decision_of}
 use Rattle.answer_places.specs.declared.Ids.{Ids}
 use Rattle.answer_places.specs.declared.Response.{Response as Held}
 use Rattle.answer_places.specs.declared.Answer.{Answer as Case}
 use Rattle.answer_places.specs.declared.Answer.TheVariants.{Refused, Done, AllValid, NotValid, Authorized}
-
-abbrev pub refusal_of : RefusalCode → Refusal
-refusal_of NotACall = not_a_call
-refusal_of Inadmissible = inadmissible
-refusal_of SchemaNotWellFormed = schema_not_well_formed
-refusal_of NotFound = not_found
-refusal_of OverCapacity = over_capacity
-
-abbrev pub why_of : Why → ValidationError
-why_of IncompatibleTypes = type_error lub_err
-why_of UnexpectedType = type_error unexpected_type
-why_of AttributeNotFound = type_error attr_not_found
-why_of TagNotFound = type_error tag_not_found
-why_of UnknownEntity = type_error unknown_entity
-why_of EmptySet = type_error empty_set_err
-why_of NeverTrue = impossible_policy
-
-abbrev pub decision_of : DecisionCode → Decision
-decision_of Deny = deny
-decision_of Allow = allow
 
 -- ---- ids
 -- the texts whose places are n numbers from a place on

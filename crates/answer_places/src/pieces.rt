@@ -1,71 +1,72 @@
-// Pieces of an answer, each written at a place where there is room for it; texts and lists say where the next piece goes.
-ghost use Rattle.std.specs.Prelude.{◌≡◌, ◌+◌, ◌^◌, ◌<◌, ◌≤◌, ◌++◌, length, slice_index};
-ghost use Rattle.spec.specs.Bytes.{encode_word, encode_text, encode_list};
+// Texts and lists of ids that lie in a memory, and how they are written into an answer.
+ghost use Rattle.std.specs.Prelude.{◌≡◌, ◌+◌, ◌<◌, ◌≤◌, length, slice_index};
+ghost use Rattle.spec.specs.Bytes.{encode_text, encode_list};
+ghost use Rattle.values.specs.Memory.{numbers};
 ghost use Rattle.values.specs.Held.{text_at};
+ghost use Rattle.answers.specs.Put.{Wrote};
 ghost use Rattle.answer_places.specs.Code.{IdIn, IdsIn, ids_at};
-ghost use Rattle.answer_places.specs.Put.{written, Wrote, Left};
+ghost use Rattle.answer_places.specs.Put.{Left};
 
 use crate::Ids;
-use values::memory::word;
+use answers::{Text, put_end, put_item};
+use values::Memory;
 
-// A number, in eight bytes.
-pub(crate) fn set_word(out: &mut [u8], at: usize, n: u64)
-    requires { at + 8 ≤ length out.old }
-    ensures { out.new ≡ written out.old at (encode_word n) }
-{
-    out[at..at + 8].copy_from_slice(&n.to_be_bytes());
+// The text at place `id`: its length, and then a number for each byte.
+#[derive(Clone, Copy)]
+pub(crate) struct HeldText<'a> {
+    pub memory: Memory<'a>,
+    pub id: usize,
 }
 
-// The text at place `id`, behind its length.
-pub(crate) fn set_text(store: &[u64], work: &[u64], id: usize, out: &mut [u8], at: usize) -> usize
-    requires small { length (store.now ++ work.now) < 2 ^ 64 }
-    requires there { IdIn (store.now ++ work.now) id }
-    requires room { at + 8 + slice_index (store.now ++ work.now) id ≤ length out.old }
-    ensures { Wrote out.old at (encode_text (text_at (store.now ++ work.now) id)) result out.new }
-{
-    let long = word(store, work, id);
-    set_word(out, at, long);
-    for i in 0..long as usize {
-        out[at + 8 + i] = word(store, work, id + 1 + i) as u8;
+impl Text for HeldText<'_> {
+    ghost is_text = { λ text. IdIn (numbers text.memory) text.id };
+
+    ghost bytes = { λ text. text_at (numbers text.memory) text.id };
+
+    fn len(&self) -> usize {
+        self.memory.word(self.id) as usize
     }
-    at + 8 + long as usize
+
+    fn byte(&self, i: usize) -> u8 {
+        self.memory.word(self.id + 1 + i) as u8
+    }
+}
+
+// The id whose place stands at `place`.
+fn held<'a>(memory: &Memory<'a>, place: usize) -> HeldText<'a>
+    requires within { place < length (numbers memory.now) }
+    requires there { IdIn (numbers memory.now) (slice_index (numbers memory.now) place) }
+    ensures there { IdIn (numbers result.memory) result.id }
+    ensures is { text_at (numbers result.memory) result.id ≡ text_at (numbers memory.now) (slice_index (numbers memory.now) place) }
+{
+    HeldText {
+        memory: *memory,
+        id: memory.word(place) as usize,
+    }
 }
 
 // How much of `room` is left behind a list of ids, or nothing where there is no room for it.
-pub(crate) fn room_behind(store: &[u64], work: &[u64], ids: Ids, room: usize) -> Option<usize>
-    requires small { length (store.now ++ work.now) < 2 ^ 64 }
-    requires there { IdsIn (store.now ++ work.now) ids }
-    ensures { Left room (length (encode_list encode_text (ids_at (store.now ++ work.now) ids))) result }
+pub(crate) fn room_behind(memory: &Memory<'_>, ids: Ids, room: usize) -> Option<usize>
+    requires { IdsIn (numbers memory.now) ids }
+    ensures { Left room (length (encode_list encode_text (ids_at (numbers memory.now) ids))) result }
 {
     let mut left = room;
-    for k in 0..ids.count {
-        let id = word(store, work, ids.from + k) as usize;
-        let long = word(store, work, id) as usize;
+    for place in ids.from..ids.from + ids.count {
         // beside the id: a 1, and eight bytes for the length
-        if left < 9 || left - 9 < long {
-            return None;
-        }
-        left = left - 9 - long;
+        left = left.checked_sub(9)?.checked_sub(held(memory, place).len())?;
     }
-    if left < 1 {
-        return None;
-    }
-    Some(left - 1)
+    left.checked_sub(1)
 }
 
 // A list of ids: a 1 before each, and a 0 behind them.
-pub(crate) fn set_ids(store: &[u64], work: &[u64], ids: Ids, out: &mut [u8], start: usize) -> usize
-    requires small { length (store.now ++ work.now) < 2 ^ 64 }
-    requires there { IdsIn (store.now ++ work.now) ids }
-    requires room { start + length (encode_list encode_text (ids_at (store.now ++ work.now) ids)) ≤ length out.old }
-    ensures { Wrote out.old start (encode_list encode_text (ids_at (store.now ++ work.now) ids)) result out.new }
+pub(crate) fn set_ids(memory: &Memory<'_>, ids: Ids, out: &mut [u8], start: usize) -> usize
+    requires there { IdsIn (numbers memory.now) ids }
+    requires room { start + length (encode_list encode_text (ids_at (numbers memory.now) ids)) ≤ length out.old }
+    ensures { Wrote out.old start (encode_list encode_text (ids_at (numbers memory.now) ids)) result out.new }
 {
     let mut at = start;
-    for k in 0..ids.count {
-        let id = word(store, work, ids.from + k) as usize;
-        out[at] = 1;
-        at = set_text(store, work, id, out, at + 1);
+    for place in ids.from..ids.from + ids.count {
+        at = put_item(out, at, held(memory, place)).unwrap();
     }
-    out[at] = 0;
-    at + 1
+    put_end(out, at).unwrap()
 }

@@ -1,20 +1,12 @@
 -- Bytes put one behind another.
-use Rattle.std.proofs.Common.{◌≡◌, ℕ, zero, suc, ◌+◌, ◌<◌, ◌≤◌, Bool, true, false, cond, List, [], ◌∷◌, ◌++◌, length, get_or, take, drop, set, sym, refl, ap, ◌∙◌, add-zero, zero-add, arith}
-use borrow.Rule.Slice.PartMut.{put_mid}
-use mir.Val.{bool_byte}
-use Rattle.std.proofs.lemmas.List.{length-append, length-drop, length-take-le, append_assoc, take-append-drop, drop_more, set_at, take_at, drop_at, drop-drop}
-use Rattle.std.proofs.lemmas.Bool.{ltb-true, and_parts}
-use Rattle.spec.specs.Calls.{all_below}
+use Rattle.std.proofs.Common.{◌≡◌, ℕ, ◌+◌, ◌<◌, ◌≤◌, List, [], ◌∷◌, ◌++◌, length, take, drop, set, Some, None, Option, IsSome, sym, refl, ap, ◌∙◌, subst, zero-add, append_assoc, length-append, length-drop, arith}
+use Rattle.std.proofs.lemmas.List.{length-take-le, take-append-drop, take_at, drop_at, drop-drop}
 use Rattle.spec.specs.Bytes.{encode_word, encode_text}
 use Rattle.words.proofs.Round.{word-long}
-use Rattle.answers.specs.Put.{written, Wrote}
+use Rattle.answers.specs.Put.{written, Wrote, Put}
 
-pub written_none : (xs : List ℕ) (at : ℕ) → written xs at [] ≡ xs
-written_none xs at = rw (add-zero at) (take-append-drop at xs)
-
--- at the beginning
-pub written-first : (xs ys : List ℕ) → written xs 0 ys ≡ ys ++ drop (length ys) xs
-written-first xs ys = ap (λ k. ys ++ drop k xs) (zero-add (length ys))
+pub text-long : (t : List ℕ) → length (encode_text t) ≡ 8 + length t
+text-long t = length-append (encode_word (length t)) t ∙ ap (λ n. n + length t) (word-long (length t))
 
 -- one piece behind another
 pub written-more : (xs : List ℕ) (at : ℕ) (ys zs : List ℕ) (n : ℕ) → n ≡ at + length ys → n ≤ length xs → written (written xs at ys) n zs ≡ written xs at (ys ++ zs)
@@ -33,38 +25,47 @@ pub written-long : (xs : List ℕ) (at : ℕ) (ys : List ℕ) → at + length ys
 written-long xs at ys h =
     omega (arith, length-append (take at xs) (ys ++ drop (at + length ys) xs), length-append ys (drop (at + length ys) xs), length-drop (at + length ys) xs, length-take-le at xs (omega arith))
 
--- one byte
-pub written_one : (xs : List ℕ) (at y : ℕ) → at < length xs → set xs at y ≡ written xs at (y ∷ [])
-written_one xs at y h =
-    ap (λ zs. set zs at y) (sym (take-append-drop at xs) ∙ ap (λ zs. take at xs ++ zs) (drop_more xs at 0 h))
-    ∙ set_at (take at xs) _ _ y at (length-take-le at xs (omega arith))
+-- bytes in place of as many between two parts
+pub written_between : (front olds bytes tail : List ℕ) (at : ℕ) → length front ≡ at → length olds ≡ length bytes → front ++ (bytes ++ tail) ≡ written (front ++ (olds ++ tail)) at bytes
+written_between front olds bytes tail at f o =
+    let whole : front ++ (olds ++ tail) ≡ (front ++ olds) ++ tail = sym (append_assoc front olds tail) in
+    let long : length (front ++ olds) ≡ at + length bytes = omega (arith, length-append front olds) in
+    let begin : take at (front ++ (olds ++ tail)) ≡ front = take_at front (olds ++ tail) at f in
+    let rest : drop (at + length bytes) (front ++ (olds ++ tail)) ≡ tail = ap (drop (at + length bytes)) whole ∙ drop_at (front ++ olds) tail (at + length bytes) long in
+    sym (ap (λ q. q ++ (bytes ++ drop (at + length bytes) (front ++ (olds ++ tail)))) begin ∙ ap (λ q. front ++ (bytes ++ q)) rest)
 
-pub written-push : (xs : List ℕ) (at : ℕ) (ys : List ℕ) (n y : ℕ) → n ≡ at + length ys → n < length xs → set (written xs at ys) n y ≡ written xs at (ys ++ (y ∷ []))
-written-push xs at ys n y e h =
-    written_one (written xs at ys) n y (omega (arith, written-long xs at ys (omega arith))) ∙ written-more xs at ys (y ∷ []) n e (omega arith)
+pub wrote_between : (old front olds bytes tail : List ℕ) (at end : ℕ) → old ≡ front ++ (olds ++ tail) → length front ≡ at → length olds ≡ length bytes → end ≡ at + length bytes → Wrote old at bytes end (front ++ (bytes ++ tail))
+wrote_between old front olds bytes tail at end e f o n =
+    record {
+      ends = n;
+      fits = omega (arith, ap length e, length-append front (olds ++ tail), length-append olds tail);
+      holds = written_between front olds bytes tail at f o ∙ ap (λ q. written q at bytes) (sym e);
+    }
 
-pub text-long : (t : List ℕ) → length (encode_text t) ≡ 8 + length t
-text-long t = length-append (encode_word (length t)) t ∙ ap (λ n. n + length t) (word-long (length t))
+-- bytes at the beginning of what stands behind a byte, written together with that byte
+pub wrote_behind : (old front room new bytes : List ℕ) (at was is end : ℕ) → old ≡ front ++ (was ∷ room) → length front ≡ at → Wrote room 0 bytes end new → Wrote old at (is ∷ bytes) (at + 1 + end) (front ++ (is ∷ new))
+wrote_behind old front room new bytes at was is end e f p =
+    let n = length bytes in
+    let size : n ≤ length room = omega arith in
+    let news : new ≡ bytes ++ drop n room = p.holds ∙ ap (λ k. bytes ++ drop k room) (zero-add n) in
+    subst (λ q. Wrote old at (is ∷ bytes) (at + 1 + end) (front ++ (is ∷ q))) (sym news)
+    (wrote_between old front (was ∷ take n room) (is ∷ bytes) (drop n room) at (at + 1 + end)
+    (e ∙ ap (λ q. front ++ (was ∷ q)) (sym (take-append-drop n room))) f
+    (omega (arith, length-take-le n room size)) (omega arith))
 
--- two bytes
-pub written-two : (xs : List ℕ) (at n a b : ℕ) → n ≡ at + 1 → n < length xs → set (set xs at a) n b ≡ written xs at (a ∷ (b ∷ []))
-written-two xs at n a b e h = ap (λ q. set q n b) (written_one xs at a (omega arith)) ∙ written-push xs at (a ∷ []) n b e h
+-- a byte, as many bytes as there were, and one more byte
+pub wrote_around : (old text new bytes room : List ℕ) (was is last byte end : ℕ) → old ≡ was ∷ (text ++ room) → length text ≡ length new → new ≡ bytes → 0 < length room → last ≡ byte → end ≡ 2 + length text → Wrote old 0 (is ∷ (bytes ++ (byte ∷ []))) end (is ∷ (new ++ set room 0 last))
+wrote_around old text new bytes [] was is last byte end e l m h k n = absurd (omega arith)
+wrote_around old text new bytes (r ∷ rest) was is last byte end e l m h k n =
+    let news : (new ++ (last ∷ rest)) ≡ (bytes ++ (byte ∷ [])) ++ rest = ap (λ q. q ++ (last ∷ rest)) m ∙ ap (λ b. bytes ++ (b ∷ rest)) k ∙ sym (append_assoc bytes (byte ∷ []) rest) in
+    subst (λ q. Wrote old 0 (is ∷ (bytes ++ (byte ∷ []))) end (is ∷ q)) (sym news)
+    (wrote_between old [] (was ∷ (text ++ (r ∷ []))) (is ∷ (bytes ++ (byte ∷ []))) rest 0 end
+    (e ∙ ap (λ q. was ∷ q) (sym (append_assoc text (r ∷ []) rest))) refl
+    (omega (arith, ap length m, length-append text (r ∷ []), length-append bytes (byte ∷ []))) (omega (arith, ap length m, length-append bytes (byte ∷ []))))
 
--- a part of a slice that was written anew
-pub written-part : (xs : List ℕ) (at k : ℕ) (ys zs : List ℕ) → ys ≡ zs → k ≡ length zs → put_mid at k xs ys ≡ written xs at zs
-written-part xs at k ys zs e l =
-    ap (λ q. take at xs ++ (q ++ drop k (drop at xs))) e
-    ∙ ap (λ q. take at xs ++ (zs ++ q)) (drop-drop k at xs ∙ ap (λ n. drop (at + n) xs) l)
-
--- a number that stands among small ones
-pub small_at : (b : ℕ) (xs : List ℕ) (i : ℕ) → all_below b xs ≡ true → i < length xs → get_or xs i 0 < b
-small_at b [] i h l = absurd (omega arith)
-small_at b (x ∷ xs) zero h l = ltb-true x b (and_parts _ _ h).0
-small_at b (x ∷ xs) (suc i) h l = small_at b xs i (and_parts _ _ h).1 (omega arith)
-
-pub bool-byte : (b : Bool) → bool_byte b ≡ cond b 1 0
-bool-byte true = refl
-bool-byte false = refl
+-- what is written behind a piece is written with it
+pub wrote-left : (old mid : List ℕ) (at : ℕ) (xs ys : List ℕ) (between : ℕ) → Wrote old at xs between mid → written mid between ys ≡ written old at (xs ++ ys)
+wrote-left old mid at xs ys between p = ap (λ m. written m between ys) p.holds ∙ written-more old at xs ys between p.ends p.fits
 
 -- two pieces, the second put where the first ends, are one
 pub wrote-more : (old mid new : List ℕ) (at : ℕ) (xs ys : List ℕ) (between end : ℕ) → Wrote old at xs between mid → Wrote mid between ys end new → Wrote old at (xs ++ ys) end new
@@ -73,5 +74,15 @@ wrote-more old mid new at xs ys between end p q =
     record {
       ends = omega (arith, length-append xs ys);
       fits = omega arith;
-      holds = q.holds ∙ ap (λ m. written m between ys) p.holds ∙ written-more old at xs ys between p.ends p.fits;
+      holds = q.holds ∙ wrote-left old mid at xs ys between p;
     }
+
+-- where there is room, there is a place behind
+pub placed : (old : List ℕ) (at : ℕ) (bytes : List ℕ) (r : Option ℕ) (new : List ℕ) → Put old at bytes r new → at + length bytes ≤ length old → IsSome r
+placed old at bytes (Some end) new p h = refl
+placed old at bytes None new p h = absurd (omega arith)
+
+-- a last piece for which there is room
+pub put-last : (old mid new : List ℕ) (at : ℕ) (xs ys : List ℕ) (between : ℕ) (r : Option ℕ) → Wrote old at xs between mid → Put mid between ys r new → between + length ys ≤ length mid → Put old at (xs ++ ys) r new
+put-last old mid new at xs ys between (Some end) p q h = wrote-more old mid new at xs ys between end p q
+put-last old mid new at xs ys between None p q h = absurd (omega arith)

@@ -1,5 +1,6 @@
 // A file of two calls, and the same cut off.
-use crate::count_calls;
+use crate::{Calls, CutOff, count_calls};
+use std::test::Fail;
 
 #[test]
 fn counts(rt: HostRuntime) {
@@ -10,11 +11,29 @@ fn counts(rt: HostRuntime) {
     );
     assert_eq!(rt;
         count_calls(b"\0\0\0\0\0\0\0\x01\x05\0\0\0\0\0\0\0"),
-        Err(9)
+        Err(CutOff { at: 9 })
     );
-    assert_eq!(rt; count_calls(b"\0\0\0\0\0\0\0\x02\x05"), Err(0));
+    assert_eq!(rt;
+        count_calls(b"\0\0\0\0\0\0\0\x02\x05"),
+        Err(CutOff { at: 0 })
+    );
     assert_eq!(rt;
         count_calls(b"\xff\xff\xff\xff\xff\xff\xff\xff\x05"),
-        Err(0)
+        Err(CutOff { at: 0 })
     );
+}
+
+#[test]
+fn gives(rt: HostRuntime) {
+    let mut calls = Calls::new(b"\0\0\0\0\0\0\0\x01\x05\0\0\0\0\0\0\0\x02\x07");
+    assert_eq!(rt; calls.next(), Some(Ok([5u8].as_slice())));
+    assert_eq!(rt; calls.next(), Some(Err(CutOff { at: 9 })));
+    assert_eq!(rt; calls.next(), None);
+}
+
+#[test]
+fn cut_off_in_words(rt: HostRuntime) -> Result<(), Fail> {
+    let words = format!(in rt.alloc(); "{}", CutOff { at: 9 })?;
+    assert_eq!(rt; words.as_str(), "ends inside the call at byte 9");
+    Ok(())
 }

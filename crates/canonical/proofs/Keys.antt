@@ -1,22 +1,24 @@
 -- What was read is what the bytes spell: pieces of them are the keys by which things are in order.
-use Rattle.std.proofs.Common.{◌≡◌, ℕ, zero, suc, ◌+◌, ◌-◌, ◌<◌, ◌≤◌, Bool, true, false, cond, ◌&&◌, ltb, leb, List, [], ◌∷◌, length, get_or, take, drop, sym, refl, ap, ◌∙◌, arith}
+use Rattle.std.proofs.Common.{◌≡◌, ℕ, zero, suc, ◌+◌, ◌-◌, ◌<◌, ◌≤◌, Bool, true, false, ◌&&◌, ltb, List, [], ◌∷◌, get_or, take, drop, refl, ap, ◌∙◌, arith}
 use Rattle.std.proofs.lemmas.Bool.{and_parts, and_from, lt-ltb}
-use Rattle.std.proofs.lemmas.List.{get_or-drop, drop-drop, take_at}
+use Rattle.std.proofs.lemmas.List.{get_or-drop, take_at}
 use Rattle.spec.specs.Basics.{Text, less, ascending, all, name}
 use Rattle.spec.specs.Values.{EntityUID, entity_uid, Value, prim, to_values, to_attrs, code, code_uid}
 use Rattle.spec.specs.Bytes.{Bytes, encode_uid, encode_value}
 use Rattle.spec.specs.Calls.{canonical, canonical_all, canonical_attrs, all_below}
 use Rattle.laws.proofs.Lists.{elements-values, fields-attrs}
-use Rattle.wire.specs.Read.{got, stops, big_endian, read_word, read_run, read_text, read_list}
+use Rattle.wire.specs.Read.{got, read_list}
 use Rattle.wire.specs.Grammar.{Kind, value, uid, Tree, read_node}
 use Rattle.wire.specs.Sizes.{encode_tree}
-use Rattle.wire.proofs.Exact.{got-stops, spelled, exact-list}
+use Rattle.wire.proofs.Exact.{spelled, exact-list}
 use Rattle.wire.proofs.Nodes.{rank, good, exact-node}
 use Rattle.wire.proofs.Carried.{carried-value}
 use Rattle.wire.proofs.Order.{byte-order}
-use Rattle.canonical.specs.declared.Piece.{Piece}
-use Rattle.canonical.specs.Kept.{piece, read_elements, read_uids, canonical_elements, canonical_named, ascending_uids}
-use Rattle.canonical.proofs.Lists.{follow-inv}
+use Rattle.reader.specs.Ends.{Got}
+use Rattle.canonical.proofs.Lists.{first-got}
+use Rattle.canonical.specs.declared.Listed.{Listed}
+use Rattle.canonical.specs.declared.Listed.TheVariants.{Values, Attributes, Ancestors}
+use Rattle.canonical.specs.Kept.{Item, read_items, item_key, is_kept, canonical_elements, canonical_named, ascending_uids, in_order}
 
 -- ---- bytes are below 256
 abbrev pub Small : Bytes → Type 0
@@ -30,33 +32,10 @@ pub small-drop : (at : ℕ) (bs : Bytes) → Small bs → all_below 256 (drop at
 small-drop at bs s = small_all (drop at bs) (λ i. rw (get_or-drop at bs i 0) (s (at + i)))
 
 -- ---- a tree
-pub tree-piece : (k : Kind) (bs : Bytes) (at h : ℕ) (x : Tree k) (n : ℕ) (p : Piece) → Small bs → rank k ≤ h → read_node h k (drop at bs) ≡ got x n → p.from ≡ at → p.to ≡ at + n → piece bs p ≡ encode_tree k x
-tree-piece k bs at h x n p s l e f t =
-    let w = spelled (encode_tree k) (good h k) (read_node h k) (exact-node h k l) (drop at bs) (small-drop at bs s) x n e in
-    ap (λ z. take (p.to - p.from) (drop z bs)) f ∙ ap (λ z. take (p.to - p.from) z) w.1 ∙ take_at (encode_tree k x) w.0 (p.to - p.from) (omega (arith, w.2, f, t))
-
--- ---- a text
-cond-inv : {X : Type 0} (b : Bool) (x y : X) (n m k : ℕ) → cond b (got x n) (stops k) ≡ got y m → (x ≡ y) × (n ≡ m)
-cond-inv true x y n m k e = ((cc), (cc))
-cond-inv false x y n m k e = got-stops y m k (sym e)
-
-word-long : (bs : Bytes) (k m : ℕ) → read_word bs ≡ got k m → 8 ≡ m
-unfolding read_word
-word-long bs k m e = (cond-inv (leb 8 (length bs)) (big_endian bs) k 8 m (length bs) e).1
-
-run_is : (k : ℕ) (bs : Bytes) (t : Text) (m : ℕ) → read_run k bs ≡ got t m → (take k bs ≡ t) × (k ≡ m)
-unfolding read_run
-run_is k bs t m e = cond-inv (leb k (length bs)) (take k bs) t k m (length bs) e
-
-pub text-piece : (bs : Bytes) (at : ℕ) (t : Text) (n : ℕ) (p : Piece) → read_text (drop at bs) ≡ got t n → p.from ≡ at + 8 → p.to ≡ at + n → (p.from ≤ p.to) × (piece bs p ≡ t)
-unfolding read_text
-text-piece bs at t n p e f o =
-    let w = follow-inv (read_word (drop at bs)) (drop at bs) read_run t n e in
-    let eight = word-long (drop at bs) w.0 w.1 w.3 in
-    let q = run_is w.0 (drop w.1 (drop at bs)) t w.2 w.4 in
-    let start : p.from ≡ at + w.1 = omega (arith, f, eight) in
-    let long : p.to - p.from ≡ w.0 = omega (arith, start, o, w.5, q.1) in
-    (omega (arith, start, o, w.5), ap (λ z. take (p.to - p.from) (drop z bs)) start ∙ ap (λ z. take z (drop (at + w.1) bs)) long ∙ ap (λ z. take w.0 z) (sym (drop-drop w.1 at bs)) ∙ q.0)
+pub tree-bytes : (k : Kind) (bs : Bytes) (at h e : ℕ) (x : Tree k) (n : ℕ) → Small bs → rank k ≤ h → read_node h k (drop at bs) ≡ got x n → e ≡ at + n → take (e - at) (drop at bs) ≡ encode_tree k x
+tree-bytes k bs at h e x n s l q t =
+    let w = spelled (encode_tree k) (good h k) (read_node h k) (exact-node h k l) (drop at bs) (small-drop at bs s) x n q in
+    ap (λ z. take (e - at) z) w.1 ∙ take_at (encode_tree k x) w.0 (e - at) (omega (arith, w.2, t))
 
 -- ---- the order by another key
 module _ {X : Type 0} (key other : X → Text) (fit : X → Bool) (same : (x y : X) → fit x ≡ true → fit y ≡ true → less (key x) (key y) ≡ less (other x) (other y)) where
@@ -85,9 +64,21 @@ all-canonical : (vs : List Value) → canonical_all (to_values vs) ≡ all canon
 all-canonical [] = refl
 all-canonical (v ∷ vs) = ap (λ b. canonical v && b) (all-canonical vs)
 
-pub elements-by-bytes : (bs : Bytes) (at h : ℕ) → Small bs → 0 < h → (vs : List Value) (n : ℕ) → read_elements h (drop at bs) ≡ got vs n → canonical_elements vs ≡ (ascending encode_value vs && all canonical vs)
-elements-by-bytes bs at zero s l vs n e = absurd (omega arith)
-elements-by-bytes bs at (suc h) s l vs n e =
+-- what was read has a height
+pub has-height : (k : Kind) (h : ℕ) (bs : Bytes) → Got (read_node h k bs) → 0 < h
+unfolding read_node
+has-height k zero bs g = absurd g
+has-height k (suc h) bs g = omega arith
+
+-- without one only the empty list is read
+low-list : {A : Type 0} (k : Kind) (bs : Bytes) (at : ℕ) (x : Tree k) (xs : List (Tree k)) (n : ℕ) → read_list (read_node 0 k) 0 (drop at bs) ≡ got (x ∷ xs) n → A
+low-list k bs at x xs n e = let l = has-height k 0 _ (first-got (read_node 0 k) bs at x xs n e) in absurd (omega arith)
+
+elements-by-bytes : (bs : Bytes) (at h : ℕ) → Small bs → (vs : List Value) (n : ℕ) → read_items Values h (drop at bs) ≡ got vs n → canonical_elements vs ≡ (ascending encode_value vs && all canonical vs)
+unfolding ascending
+elements-by-bytes bs at zero s [] n e = refl
+elements-by-bytes bs at zero s (v ∷ vs) n e = low-list value bs at v vs n e
+elements-by-bytes bs at (suc h) s vs n e =
     ap (λ xs. ascending code xs && canonical_all (to_values vs)) (elements-values vs) ∙ ap (λ b. b && canonical_all (to_values vs)) (ascending-same code encode_value (good (suc h) value) (value-order h) vs (all-good value bs at (suc h) s (omega arith) vs n e))
     ∙ ap (λ b. ascending encode_value vs && b) (all-canonical vs)
 
@@ -95,7 +86,7 @@ all_named : (fs : List (Text × Value)) → canonical_attrs (to_attrs fs) ≡ al
 all_named [] = refl
 all_named (f ∷ fs) = ap (λ b. canonical f.1 && b) (all_named fs)
 
-pub named-by-bytes : (fs : List (Text × Value)) → canonical_named fs ≡ (ascending name fs && all (λ f. canonical f.1) fs)
+named-by-bytes : (fs : List (Text × Value)) → canonical_named fs ≡ (ascending name fs && all (λ f. canonical f.1) fs)
 named-by-bytes fs = ap (λ xs. ascending name xs && canonical_attrs (to_attrs fs)) (fields-attrs fs) ∙ ap (λ b. ascending name fs && b) (all_named fs)
 
 and-all : (b : Bool) (us : List EntityUID) → b ≡ (b && all (λ _. true) us)
@@ -103,6 +94,14 @@ and-all true [] = refl
 and-all true (u ∷ us) = and-all true us
 and-all false us = refl
 
-pub uids-by-bytes : (bs : Bytes) (at h : ℕ) → Small bs → 0 < h → (us : List EntityUID) (n : ℕ) → read_uids h (drop at bs) ≡ got us n → ascending_uids us ≡ (ascending encode_uid us && all (λ _. true) us)
-uids-by-bytes bs at zero s l us n e = absurd (omega arith)
-uids-by-bytes bs at (suc h) s l us n e = ascending-same code_uid encode_uid (good (suc h) uid) (uid-order h) us (all-good uid bs at (suc h) s (omega arith) us n e) ∙ and-all (ascending encode_uid us) us
+uids-by-bytes : (bs : Bytes) (at h : ℕ) → Small bs → (us : List EntityUID) (n : ℕ) → read_items Ancestors h (drop at bs) ≡ got us n → ascending_uids us ≡ (ascending encode_uid us && all (λ _. true) us)
+unfolding ascending
+uids-by-bytes bs at zero s [] n e = refl
+uids-by-bytes bs at zero s (u ∷ us) n e = low-list uid bs at u us n e
+uids-by-bytes bs at (suc h) s us n e = ascending-same code_uid encode_uid (good (suc h) uid) (uid-order h) us (all-good uid bs at (suc h) s (omega arith) us n e) ∙ and-all (ascending encode_uid us) us
+
+-- of whatever a list is
+pub by-bytes : (l : Listed) (bs : Bytes) (at h : ℕ) → Small bs → (xs : List (Item l)) (n : ℕ) → read_items l h (drop at bs) ≡ got xs n → in_order l xs ≡ (ascending (item_key l) xs && all (is_kept l) xs)
+by-bytes Values bs at h s xs n e = elements-by-bytes bs at h s xs n e
+by-bytes Attributes bs at h s xs n e = named-by-bytes xs
+by-bytes Ancestors bs at h s xs n e = uids-by-bytes bs at h s xs n e

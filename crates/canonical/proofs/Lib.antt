@@ -1,5 +1,5 @@
-pub mod Pieces
 pub mod Lists
 pub mod Keys
 pub mod Parts
+pub mod Elements
 pub mod Whole

@@ -1,28 +1,38 @@
 -- Things in a row, each behind a 1 and a 0 behind them all: what is left of them says what all of them say.
-use Rattle.std.proofs.Common.{◌≡◌, ℕ, zero, suc, ◌+◌, ◌<◌, ◌≤◌, Bool, true, false, cond, ◌&&◌, eqb, List, [], ◌∷◌, length, get_or, drop, Some, None, Ok, Option, sym, refl, ap, ◌∙◌, ⊎_elim, arith}
-use Rattle.std.proofs.lemmas.Bool.{cases_lt, eqb-true}
+use Rattle.std.proofs.Common.{◌≡◌, ℕ, zero, suc, ◌+◌, ◌<◌, ◌≤◌, Bool, true, false, cond, ◌&&◌, eqb, List, [], ◌∷◌, length, get_or, drop, Some, None, Option, Bor, sym, refl, ap, ◌∙◌, ◌⊎◌, inl, inr, ⊎_elim, arith}
+use Rattle.std.proofs.lemmas.Bool.{cases_Bool, true≢false, cases_lt, eqb-true, eq-eqb}
 use Rattle.std.proofs.lemmas.List.{drop_more, drop-drop, drop_all}
 use Rattle.spec.specs.Basics.{Text, less, ascending, all}
 use Rattle.spec.specs.Bytes.{Bytes}
 use Rattle.wire.specs.Read.{Read, got, stops, past, turn, follow, next, read_list}
-use Rattle.reader.specs.declared.scan.Found.{Found}
-use Rattle.reader.specs.Found.{found}
+use Rattle.reader.specs.Ends.{Got}
 use Rattle.wire.proofs.Exact.{got-stops}
 use Rattle.reader.proofs.Along.{list-skip, list-one}
-use Rattle.canonical.specs.declared.Piece.{Piece}
-use Rattle.canonical.specs.declared.Checked.{Checked}
-use Rattle.canonical.specs.Kept.{piece, rises, Got, judged}
+use Rattle.reader.proofs.Stood.{got-is, is-got}
+use Rattle.canonical.specs.declared.Element.{Element}
+use Rattle.canonical.specs.Kept.{rises, judged, FoundAs}
 
 -- ---- what was read, taken apart
-pub got-is : {X : Type 0} (R : Read X) → Got R → (x : X) × (n : ℕ) × (R ≡ got x n)
-got-is (got x n) h = (x, n, refl)
-got-is (stops k) h = absurd h
+-- what was judged
+pub judged-some : {X : Type 0} (f : X → Bool) (at e : ℕ) (R : Read X) (x : X) (n : ℕ) → Some e ≡ judged f at R → R ≡ got x n → (e ≡ at + n) × (f x ≡ true)
+judged-some f at e R x n q g = go (f x) (q ∙ ap (λ S. judged f at S) g)
+  where
+    go : (b : Bool) → Some e ≡ cond b (Some (at + n)) None → (e ≡ at + n) × (b ≡ true)
+    go true q = ((cc), refl)
+    go false q = cc
 
-pub is-got : {X : Type 0} (R : Read X) (x : X) (n : ℕ) → R ≡ got x n → Got R
-is-got R x n e = rw e tt
+pub judged-none : {X : Type 0} (f : X → Bool) (at : ℕ) (R : Read X) (x : X) (n : ℕ) → None ≡ judged f at R → R ≡ got x n → f x ≡ false
+judged-none f at R x n q g = go (f x) (q ∙ ap (λ S. judged f at S) g)
+  where
+    go : (b : Bool) → None ≡ cond b (Some (at + n)) None → b ≡ false
+    go true q = cc
+    go false q = refl
 
-pub judged-got : {X : Type 0} (f : X → Bool) (at : ℕ) (r : Checked) (R : Read X) (x : X) (n : ℕ) → r ≡ judged f at R → R ≡ got x n → (r.end ≡ at + n) × (r.ok ≡ f x)
-judged-got f at r R x n e g = let q : r ≡ record { end = at + n; ok = f x } = e ∙ ap (λ S. judged f at S) g in (ap (λ k. k.end) q, ap (λ k. k.ok) q)
+found-some : {X : Type 0} (key : X → Text) (fine : X → Bool) (at : ℕ) (R : Read X) (e : Element) (x : X) (n : ℕ) → FoundAs key fine at R (Some e) → R ≡ got x n → (fine x ≡ true) × (e.key.now ≡ key x) × (e.end ≡ at + n)
+found-some key fine at R e x n h g = rw g at h
+
+found-none : {X : Type 0} (key : X → Text) (fine : X → Bool) (at : ℕ) (R : Read X) (x : X) (n : ℕ) → FoundAs key fine at R None → R ≡ got x n → fine x ≡ false
+found-none key fine at R x n h g = rw g at h
 
 pub past-inv : {X : Type 0} (n : ℕ) (R : Read X) (x : X) (m : ℕ) → past n R ≡ got x m → (k : ℕ) × (R ≡ got x k) × (m ≡ n + k)
 past-inv n (got y k) x m e = (k, (cc), (cc))
@@ -39,10 +49,6 @@ follow-inv (stops k) bs f y m e = got-stops y m k (sym e)
 next-inv : {X : Type 0} (R : Read X) (go : ℕ → Read (List X)) (ys : List X) (m : ℕ) → next R go ≡ got ys m → (x : X) × (n : ℕ) × (zs : List X) × (R ≡ got x n) × (go n ≡ got zs m) × (x ∷ zs ≡ ys)
 next-inv (got x n) go ys m e = let w = turn-inv (λ xs. x ∷ xs) (go n) ys m e in (x, n, w.0, refl, w.1, w.2)
 next-inv (stops k) go ys m e = got-stops ys m k (sym e)
-
--- what a scan said of it
-pub found-end : {X : Type 0} (size : X → ℕ) (at : ℕ) (f : Found) (x : X) (n : ℕ) (R : Read X) → Ok f ≡ found size at R → R ≡ got x n → f.end ≡ at + n
-found-end size at f x n R e g = let q : Ok f ≡ Ok (record { end = at + n; size = size x }) = e ∙ ap (λ S. found size at S) g in cc
 
 -- ---- one thing, and what is behind it
 module _ {X : Type 0} (r : Bytes → Read X) where
@@ -84,65 +90,83 @@ module _ {X : Type 0} (r : Bytes → Read X) where
           w.2 ∙ ap (λ z. got z w.1) (sym q.5) ∙ ap (λ z. got (q.0 ∷ q.2) z) long,
         )
 
+  -- what has an element begins with one
+  pub first-got : (bs : Bytes) (at : ℕ) (x : X) (xs : List X) (n : ℕ) → read_list r 0 (drop at bs) ≡ got (x ∷ xs) n → Got (r (drop (at + 1) bs))
+  first-got bs at x xs n e = go (cases_Bool (eqb (get_or bs at 0) 1))
+    where
+      h : Got (read_list r 0 (drop at bs))
+      h = is-got _ (x ∷ xs) n e
+
+      go : (eqb (get_or bs at 0) 1 ≡ true) ⊎ (eqb (get_or bs at 0) 1 ≡ false) → Got (r (drop (at + 1) bs))
+      go (inl q) = let w = list-more bs at h (eqb-true _ _ q) in is-got _ w.0 w.1 w.4
+      go (inr q) = let w = sym e ∙ list-none bs at h (λ z. true≢false (sym (eq-eqb _ _ z) ∙ q)) in cc
+
 -- ---- in the order of a key, and a test of each
-and-mix : (a b c d e : Bool) → ((a && (b && c)) && (d && e)) ≡ (a && ((b && d) && (c && e)))
-and-mix true true true d e = refl
-and-mix true true false true e = refl
-and-mix true true false false e = refl
-and-mix true false c d e = refl
-and-mix false b c d e = refl
-
-pub and-true : (a : Bool) → (a && true) ≡ a
-and-true true = refl
-and-true false = refl
-
 module _ {X : Type 0} (r : Bytes → Read X) (key : X → Text) (fine : X → Bool) (bs : Bytes) where
   -- they come behind what came last, and are in order
-  unfoldable pub goes_on : Option Piece → List X → Bool
+  unfoldable pub goes_on : Option (Bor Text) → List X → Bool
   goes_on last [] = true
-  goes_on last (x ∷ xs) = rises bs last (key x) && ascending key (x ∷ xs)
+  goes_on last (x ∷ xs) = rises last (key x) && ascending key (x ∷ xs)
 
-  -- what is left says, behind what came last and what was said so far
-  abbrev pub left : ℕ → Option Piece → Bool → Checked
-  left end last ok = judged (λ xs. ok && (goes_on last xs && all fine xs)) end (read_list r 0 (drop end bs))
+  -- what is left says, behind what came last
+  abbrev pub left : ℕ → Option (Bor Text) → Option ℕ
+  left end last = judged (λ xs. goes_on last xs && all fine xs) end (read_list r 0 (drop end bs))
 
   goes_first : (xs : List X) → ascending key xs ≡ goes_on None xs
   unfolding goes_on ascending
   goes_first [] = refl
   goes_first (x ∷ xs) = refl
 
-  goes-next : (x : X) (xs : List X) (here : Piece) → piece bs here ≡ key x → ascending key (x ∷ xs) ≡ goes_on (Some here) xs
+  goes-next : (x : X) (xs : List X) (here : Bor Text) → here.now ≡ key x → ascending key (x ∷ xs) ≡ goes_on (Some here) xs
   unfolding goes_on ascending
   goes-next x [] here e = refl
   goes-next x (y ∷ ys) here e = ap (λ t. less t (key y) && ascending key (y ∷ ys)) (sym e)
 
-  pub start : (at : ℕ) (whole : List X → Bool) → ((xs : List X) (n : ℕ) → read_list r 0 (drop at bs) ≡ got xs n → whole xs ≡ (ascending key xs && all fine xs)) → Got (read_list r 0 (drop at bs)) → left at None true ≡ judged whole at (read_list r 0 (drop at bs))
+  pub start : (at : ℕ) (whole : List X → Bool) → ((xs : List X) (n : ℕ) → read_list r 0 (drop at bs) ≡ got xs n → whole xs ≡ (ascending key xs && all fine xs)) → Got (read_list r 0 (drop at bs)) → left at None ≡ judged whole at (read_list r 0 (drop at bs))
   start at whole same h = go (read_list r 0 (drop at bs)) h (λ xs n e. same xs n e)
     where
       go : (R : Read (List X)) → Got R → ((xs : List X) (n : ℕ) → R ≡ got xs n → whole xs ≡ (ascending key xs && all fine xs)) → judged (λ xs. goes_on None xs && all fine xs) at R ≡ judged whole at R
-      go (got xs n) h e = ap (λ b. record { end = at + n; ok = b }) (ap (λ b. b && all fine xs) (sym (goes_first xs)) ∙ sym (e xs n refl))
+      go (got xs n) h e = ap (λ b. cond b (Some (at + n)) None) (ap (λ b. b && all fine xs) (sym (goes_first xs)) ∙ sym (e xs n refl))
       go (stops k) h e = absurd h
 
-  pub step : (end : ℕ) (last : Option Piece) (ok up fit : Bool) (here : Piece) (e : ℕ) → Got (read_list r 0 (drop end bs)) → get_or bs end 0 ≡ 1 →
-      ((x : X) (n : ℕ) → r (drop (end + 1) bs) ≡ got x n → (e ≡ end + 1 + n) × (piece bs here ≡ key x) × (fit ≡ fine x)) → up ≡ rises bs last (piece bs here) →
-      (so : Checked) → left end last ok ≡ so → Got (read_list r 0 (drop e bs)) × (left e (Some here) (ok && (up && fit)) ≡ so)
-  unfolding goes_on
-  step end last ok up fit here e h one same u so is =
-      let w = list-more r bs end h one in
-      let x = w.0 in
-      let ys = w.2 in
-      let s = same x w.1 w.4 in
-      let rest : read_list r 0 (drop e bs) ≡ got ys w.3 = ap (λ z. read_list r 0 (drop z bs)) s.0 ∙ w.5 in
-      let long : e + w.3 ≡ end + (1 + (w.1 + w.3)) = omega (arith, s.0) in
-      let says : ((ok && (up && fit)) && (goes_on (Some here) ys && all fine ys)) ≡ (ok && ((rises bs last (key x) && ascending key (x ∷ ys)) && (fine x && all fine ys))) = and-mix ok up fit (goes_on (Some here) ys) (all fine ys)
-      ∙ ap (λ b. ok && ((b && goes_on (Some here) ys) && (fit && all fine ys))) (u ∙ ap (rises bs last) s.1)
-      ∙ ap (λ b. ok && ((rises bs last (key x) && b) && (fit && all fine ys))) (sym (goes-next x ys here s.1))
-      ∙ ap (λ b. ok && ((rises bs last (key x) && ascending key (x ∷ ys)) && (b && all fine ys))) s.2 in (
-        is-got _ ys w.3 rest,
-        ap (λ S. judged (λ xs. (ok && (up && fit)) && (goes_on (Some here) xs && all fine xs)) e S) rest ∙ (λ i. record { end = long i; ok = says i })
-            ∙ ap (λ S. judged (λ xs. ok && (goes_on last xs && all fine xs)) end S) (sym w.6) ∙ is,
-      )
+  module _ (end : ℕ) (last : Option (Bor Text)) (h : Got (read_list r 0 (drop end bs))) where
+    module _ (one : get_or bs end 0 ≡ 1) where
+      -- an element that is not as it is kept
+      pub unkept : FoundAs key fine (end + 1) (r (drop (end + 1) bs)) None → None ≡ left end last
+      unkept f =
+          let w = list-more r bs end h one in
+          let no = found-none key fine (end + 1) _ w.0 w.1 f w.4 in
+          sym (ap (λ S. judged (λ xs. goes_on last xs && all fine xs) end S) w.6 ∙ ap (λ b. cond (goes_on last (w.0 ∷ w.2) && (b && all fine w.2)) (Some (end + (1 + (w.1 + w.3)))) None) no ∙ ap (λ b. cond b (Some (end + (1 + (w.1 + w.3)))) None) (and-false (goes_on last (w.0 ∷ w.2))))
+        where
+          and-false : (b : Bool) → (b && false) ≡ false
+          and-false true = refl
+          and-false false = refl
 
-  pub finish : (end : ℕ) (last : Option Piece) (ok : Bool) → Got (read_list r 0 (drop end bs)) → (get_or bs end 0 ≡ 1 → ⊥) → record { end = end + 1; ok = ok } ≡ left end last ok
-  unfolding goes_on
-  finish end last ok h k = rw (list-none r bs end h k) (ap (λ b. record { end = end + 1; ok = b }) (sym (and-true ok)))
+      module _ (e : Element) (f : FoundAs key fine (end + 1) (r (drop (end + 1) bs)) (Some e)) where
+        -- one that does not come behind what came last
+        pub unordered : rises last e.key.now ≡ false → None ≡ left end last
+        unfolding goes_on
+        unordered o =
+            let w = list-more r bs end h one in
+            let s = found-some key fine (end + 1) _ e w.0 w.1 f w.4 in
+            sym (ap (λ S. judged (λ xs. goes_on last xs && all fine xs) end S) w.6 ∙ ap (λ b. cond ((b && ascending key (w.0 ∷ w.2)) && all fine (w.0 ∷ w.2)) (Some (end + (1 + (w.1 + w.3)))) None) (ap (rises last) (sym s.1) ∙ o))
+
+        pub step : rises last e.key.now ≡ true → Got (read_list r 0 (drop e.end bs)) × (left e.end (Some e.key) ≡ left end last)
+        unfolding goes_on
+        step o =
+            let w = list-more r bs end h one in
+            let x = w.0 in
+            let ys = w.2 in
+            let s = found-some key fine (end + 1) _ e x w.1 f w.4 in
+            let rest : read_list r 0 (drop e.end bs) ≡ got ys w.3 = ap (λ z. read_list r 0 (drop z bs)) s.2 ∙ w.5 in
+            let long : e.end + w.3 ≡ end + (1 + (w.1 + w.3)) = omega (arith, s.2) in
+            let says : (goes_on (Some e.key) ys && all fine ys) ≡ ((rises last (key x) && ascending key (x ∷ ys)) && (fine x && all fine ys)) = ap (λ b. b && all fine ys) (sym (goes-next x ys e.key s.1))
+            ∙ ap (λ b. (b && ascending key (x ∷ ys)) && all fine ys) (sym o ∙ ap (rises last) s.1)
+            ∙ ap (λ b. (rises last (key x) && ascending key (x ∷ ys)) && (b && all fine ys)) (sym s.0) in (
+              is-got _ ys w.3 rest,
+              ap (λ S. judged (λ xs. goes_on (Some e.key) xs && all fine xs) e.end S) rest ∙ (λ i. cond (says i) (Some (long i)) None) ∙ sym (ap (λ S. judged (λ xs. goes_on last xs && all fine xs) end S) w.6),
+            )
+
+    pub finish : (get_or bs end 0 ≡ 1 → ⊥) → Some (end + 1) ≡ left end last
+    unfolding goes_on
+    finish k = rw (list-none r bs end h k) refl

@@ -1,13 +1,16 @@
 -- What the scan said of a call tells what the call carries.
-use Rattle.std.proofs.Common.{◌≡◌, ℕ, ◌≤◌, Bool, true, false, cond, eqb, List, [], ◌∷◌, length, drop, Ok, sym, refl, ap, ◌∙◌, arith}
+use Rattle.std.proofs.Common.{◌≡◌, ℕ, ◌≤◌, Bool, true, false, cond, eqb, List, [], ◌∷◌, length, drop, Ok, Result, sym, refl, ap, ◌∙◌, subst, arith}
 use mathlib.Core.Option.{Option, some, none}
 use Rattle.spec.specs.Bytes.{Bytes}
 use Rattle.spec.specs.Values.{Entity, Request}
-use Rattle.spec.specs.Calls.{Call, put_entity, authorize, malformed, call_number, size_request}
+use Rattle.spec.specs.Calls.{Call, put_entity, authorize, malformed, size_request}
 use Rattle.reader.specs.declared.scan.Scanned.{Scanned}
 use Rattle.reader.specs.Found.{scanned}
 use Rattle.wire.specs.Read.{Read, got, stops, turn, nth, got_one, read_one}
 use Rattle.wire.specs.Tags.{CallTag, set_schema_tag, put_policy_tag, remove_policy_tag, put_entity_tag, remove_entity_tag, validate_tag, authorize_tag}
+use Rattle.reader.specs.declared.grammar.CallKind.{CallKind}
+use Rattle.reader.specs.declared.grammar.CallKind.TheVariants.{PutEntity, Authorize}
+use Rattle.reader.specs.Code.{call_of}
 use Rattle.wire.specs.Grammar.{entity, request, Contents, call_tags, call_fields, make_call, read_fields, read_node, call_height, read_call, whole, decode}
 use Rattle.wire.specs.Sizes.{size_call}
 use Rattle.wire.proofs.Exact.{got-stops}
@@ -41,7 +44,7 @@ one-long {X = X} xs (b ∷ bs) x n e = (omega arith, go (nth xs b) e)
     go (some y) e = cc
     go none e = got-stops x n 0 (sym e)
 
--- ---- by its number
+-- ---- by its kind
 pub record Carries (bs : Bytes) (s : Scanned) : Type 0 where
   pub form : CallTag
   pub content : Contents (call_fields form)
@@ -49,17 +52,20 @@ pub record Carries (bs : Bytes) (s : Scanned) : Type 0 where
   pub is : decode bs ≡ make_call form content
   pub read : read_fields (read_node call_height) (call_fields form) (drop 1 bs) ≡ got content long
   pub inside : 1 ≤ length bs
-  pub tag : s.tag ≡ call_number (make_call form content)
+  pub kind : call_of s.call ≡ form
   pub size : s.size ≡ size_call (make_call form content)
 
-told : (g : CallTag) (x : Contents (call_fields g)) (s : Scanned) → Ok s ≡ scanned (make_call g x) → (s.tag ≡ call_number (make_call g x)) × (s.size ≡ size_call (make_call g x))
-told set_schema_tag x s e = ((cc), (cc))
-told put_policy_tag x s e = ((cc), (cc))
-told remove_policy_tag x s e = ((cc), (cc))
-told put_entity_tag x s e = ((cc), (cc))
-told remove_entity_tag x s e = ((cc), (cc))
-told validate_tag x s e = ((cc), (cc))
-told authorize_tag x s e = ((cc), (cc))
+kind_is : (k : CallKind) (n : ℕ) (s : Scanned) → ◌≡◌ {A = Result Scanned ℕ} (Ok s) (Ok (record { call = k; size = n })) → s.call ≡ k
+kind_is k n s e = cc
+
+told : (g : CallTag) (x : Contents (call_fields g)) (s : Scanned) → Ok s ≡ scanned (make_call g x) → (call_of s.call ≡ g) × (s.size ≡ size_call (make_call g x))
+told set_schema_tag x s e = (ap call_of (kind_is _ _ s e), (cc))
+told put_policy_tag x s e = (ap call_of (kind_is _ _ s e), (cc))
+told remove_policy_tag x s e = (ap call_of (kind_is _ _ s e), (cc))
+told put_entity_tag x s e = (ap call_of (kind_is _ _ s e), (cc))
+told remove_entity_tag x s e = (ap call_of (kind_is _ _ s e), (cc))
+told validate_tag x s e = (ap call_of (kind_is _ _ s e), (cc))
+told authorize_tag x s e = (ap call_of (kind_is _ _ s e), (cc))
 
 pub carries : (bs : Bytes) (s : Scanned) → Ok s ≡ scanned (decode bs) → Carries bs s
 unfolding read_call
@@ -71,35 +77,21 @@ carries bs s e =
     let t = turn-inv (make_call g) (read_fields (read_node call_height) (call_fields g) (drop f.1 bs)) w.0 f.2 f.4 in
     let d : decode bs ≡ make_call g t.0 = w.3 ∙ sym t.2 in
     let q = told g t.0 s (e ∙ ap scanned d) in
-    record { form = g; content = t.0; long = f.2; is = d; read = ap (λ n. read_fields (read_node call_height) (call_fields g) (drop n bs)) (sym o.1) ∙ t.1; inside = o.0; tag = q.0; size = q.1 }
+    record { form = g; content = t.0; long = f.2; is = d; read = ap (λ n. read_fields (read_node call_height) (call_fields g) (drop n bs)) (sym o.1) ∙ t.1; inside = o.0; kind = q.0; size = q.1 }
 
--- ---- an entity and a request stand behind the number
+-- ---- an entity and a request stand behind the byte that tells the kind
 abbrev pub EntityIn : Bytes → Type 0
 EntityIn bs = (e : Entity) × (n : ℕ) × (decode bs ≡ put_entity e) × (read_node 66 entity (drop 1 bs) ≡ got e n)
 
-pub entity-told : (bs : Bytes) (s : Scanned) → Carries bs s → s.tag ≡ 3 → EntityIn bs
-entity-told bs s w three = go w.form w.content w.is w.tag w.read
-  where
-    go : (g : CallTag) (x : Contents (call_fields g)) → decode bs ≡ make_call g x → s.tag ≡ call_number (make_call g x) → read_fields (read_node call_height) (call_fields g) (drop 1 bs) ≡ got x w.long → EntityIn bs
-    go set_schema_tag x d t r = absurd (omega (arith, t, three))
-    go put_policy_tag x d t r = absurd (omega (arith, t, three))
-    go remove_policy_tag x d t r = absurd (omega (arith, t, three))
-    go put_entity_tag x d t r = (x, w.long, d, r)
-    go remove_entity_tag x d t r = absurd (omega (arith, t, three))
-    go validate_tag x d t r = absurd (omega (arith, t, three))
-    go authorize_tag x d t r = absurd (omega (arith, t, three))
+pub entity-told : (bs : Bytes) (s : Scanned) → Carries bs s → s.call ≡ PutEntity → EntityIn bs
+entity-told bs s w e =
+    let P : CallTag → Type 0 = λ g. (x : Contents (call_fields g)) → decode bs ≡ make_call g x → read_fields (read_node call_height) (call_fields g) (drop 1 bs) ≡ got x w.long → EntityIn bs in
+    subst P (sym (ap call_of e) ∙ w.kind) (λ x d r. (x, w.long, d, r)) w.content w.is w.read
 
 abbrev pub RequestIn : Bytes → ℕ → Type 0
 RequestIn bs size = (q : Request) × (n : ℕ) × (decode bs ≡ authorize q) × (read_node 66 request (drop 1 bs) ≡ got q n) × (size ≡ size_request q)
 
-pub request-told : (bs : Bytes) (s : Scanned) → Carries bs s → s.tag ≡ 6 → RequestIn bs s.size
-request-told bs s w six = go w.form w.content w.is w.tag w.size w.read
-  where
-    go : (g : CallTag) (x : Contents (call_fields g)) → decode bs ≡ make_call g x → s.tag ≡ call_number (make_call g x) → s.size ≡ size_call (make_call g x) → read_fields (read_node call_height) (call_fields g) (drop 1 bs) ≡ got x w.long → RequestIn bs s.size
-    go set_schema_tag x d t z r = absurd (omega (arith, t, six))
-    go put_policy_tag x d t z r = absurd (omega (arith, t, six))
-    go remove_policy_tag x d t z r = absurd (omega (arith, t, six))
-    go put_entity_tag x d t z r = absurd (omega (arith, t, six))
-    go remove_entity_tag x d t z r = absurd (omega (arith, t, six))
-    go validate_tag x d t z r = absurd (omega (arith, t, six))
-    go authorize_tag x d t z r = (x, w.long, d, r, z)
+pub request-told : (bs : Bytes) (s : Scanned) → Carries bs s → s.call ≡ Authorize → RequestIn bs s.size
+request-told bs s w e =
+    let P : CallTag → Type 0 = λ g. (x : Contents (call_fields g)) → decode bs ≡ make_call g x → s.size ≡ size_call (make_call g x) → read_fields (read_node call_height) (call_fields g) (drop 1 bs) ≡ got x w.long → RequestIn bs s.size in
+    subst P (sym (ap call_of e) ∙ w.kind) (λ x d z r. (x, w.long, d, r, z)) w.content w.is w.size w.read

@@ -2,225 +2,145 @@
 // All of it is decided on the bytes of a call that was read before, so that what is refused is never copied.
 #![tactic(auto)]
 
-ghost use Rattle.std.specs.Prelude.{◌≡◌, ◌<◌, ◌≤◌, length, drop, Ok as ok};
-ghost use Rattle.spec.specs.Basics.{less};
+ghost use Rattle.std.specs.Prelude.{◌≡◌, ◌≤◌, length, drop, Ok as ok};
 ghost use Rattle.spec.specs.Calls.{canonical, canonical_record, admissible};
-ghost use Rattle.wire.specs.Read.{read_text};
 ghost use Rattle.wire.specs.Grammar.{value, attrs, entity, request, read_node, call_height, decode};
-ghost use Rattle.reader.specs.Code.{kind_of};
 ghost use Rattle.reader.specs.Found.{scanned};
-ghost use Rattle.canonical.specs.Kept.{piece, Inside, InsideLast, rises, Got, ending, Spells, judged, read_elements, read_named, read_uids, canonical_elements, canonical_named, ascending_uids, kept_entity};
+ghost use Rattle.reader.specs.Ends.{Got};
+ghost use Rattle.canonical.specs.Kept.{rises, judged, Within, read_item, read_items, item_key, is_kept, in_order, FoundAs, WithinElement, kept_entity};
 
-use reader::grammar::Kind;
-use reader::scan::{Scanned, node, text};
+use reader::ends::{node_end, text_end, text_of};
+use reader::grammar::{CallKind, Kind};
+use reader::order::comes_before;
+use reader::scan::{CALL_START, PART_HEIGHT, Scanned};
+use reader::value_kind::ValueKind;
 
-// Every function takes all bytes and a place among them at which what it looks at was read.
-
-// The numbers of the calls that carry what has an order or a bound.
-const PUT_POLICY: u8 = 1;
-
-const PUT_ENTITY: u8 = 3;
-
-const AUTHORIZE: u8 = 6;
+// Most functions take all bytes and a place among them at which what they look at was read, and answer where that ends, if it is as it is kept.
+// The two make no struct: the bytes stay while the place moves on, so that each step would take it apart.
 
 // A policy or a request is at most so large.
 const MOST_SIZE: usize = 65536;
 
-// The forms of values that have others in them.
-const SET: u8 = 4;
-
-const RECORD: u8 = 5;
-
-// What stands in an entity or a request is of at most this height.
-const FIELD_HEIGHT: usize = 65;
-
+// An enum and no closure: how an element is read, its key and its order are definitions by what the list is of.
+// What a list is a list of. The order of values and of names of entities is that of their bytes; attributes stand in the order of their names.
 #[derive(Clone, Copy)]
-struct Piece {
-    from: usize,
-    to: usize,
+enum Listed {
+    Values,
+    Attributes,
+    Ancestors,
 }
 
-// Where what was looked at ends, and whether it is as it is kept.
+// An element of a list: by what it is in order, and where it ends.
 #[derive(Clone, Copy)]
-struct Checked {
+struct Element<'a> {
+    key: &'a [u8],
     end: usize,
-    ok: bool,
 }
 
-// Whether one piece comes before another in the order of a dictionary.
-fn before(bytes: &[u8], a: Piece, b: Piece) -> bool
-    requires { (Inside (length bytes.now) a) × (Inside (length bytes.now) b) }
-    ensures { result ≡ less (piece bytes.now a) (piece bytes.now b) }
+// Whether a key comes behind the one that came last, if one did.
+fn behind(last: Option<&[u8]>, key: &[u8]) -> bool
+    ensures { result ≡ rises last.entry key.now }
 {
-    let mut i = a.from;
-    let mut j = b.from;
-    while i < a.to {
-        if j >= b.to {
-            return false;
+    last.is_none_or(|before| comes_before(before, key))
+}
+
+#[cycle(element_at_list_value)]
+fn element_at(bytes: &[u8], at: usize, listed: Listed, height: usize) -> Option<Element<'_>>
+    requires { (at ≤ length bytes.now) × (Got (read_item listed height (drop at bytes.now))) }
+    ensures is { FoundAs (item_key listed) (is_kept listed) at (read_item listed height (drop at bytes.now)) result }
+    ensures within { WithinElement at (length bytes.now) result }
+{
+    match listed {
+        Listed::Values => {
+            let end = value(bytes, at, height)?;
+            Some(Element {
+                key: &bytes[at..end],
+                end,
+            })
         }
-        if bytes[i] < bytes[j] {
-            return true;
+        Listed::Attributes => {
+            let end = value(bytes, text_end(bytes, at), height)?;
+            Some(Element {
+                key: text_of(bytes, at),
+                end,
+            })
         }
-        if bytes[j] < bytes[i] {
-            return false;
+        Listed::Ancestors => {
+            let end = node_end(bytes, at, Kind::Uid, height);
+            Some(Element {
+                key: &bytes[at..end],
+                end,
+            })
         }
-        i += 1;
-        j += 1;
-    }
-    j < b.to
-}
-
-// Whether a piece comes behind the one that came last, if one did.
-fn behind(bytes: &[u8], last: Option<Piece>, here: Piece) -> bool
-    requires { (InsideLast (length bytes.now) last) × (Inside (length bytes.now) here) }
-    ensures { result ≡ rises bytes.now last (piece bytes.now here) }
-{
-    match last {
-        Some(piece) => before(bytes, piece, here),
-        None => true,
     }
 }
 
-fn end_of(bytes: &[u8], at: usize, kind: Kind, height: usize) -> usize
-    requires { (at ≤ length bytes.now) × (Got (read_node height (kind_of kind) (drop at bytes.now))) }
-    ensures is { result ≡ ending at (read_node height (kind_of kind) (drop at bytes.now)) }
-    ensures within { (at ≤ result) × (result ≤ length bytes.now) }
-{
-    match node(bytes, at, kind, height) {
-        Ok(found) => found.end,
-        Err(_) => unreachable(),
-    }
-}
-
-// The bytes of a name, behind the eight that tell how many they are.
-fn name(bytes: &[u8], at: usize) -> Piece
-    requires { (at ≤ length bytes.now) × (Got (read_text (drop at bytes.now))) }
-    ensures is { Spells bytes.now at (read_text (drop at bytes.now)) result }
-    ensures within { (at ≤ result.from) × Inside (length bytes.now) result }
-{
-    match text(bytes, at) {
-        Ok(found) => Piece {
-            from: at + 8,
-            to: found.end,
-        },
-        Err(_) => unreachable(),
-    }
-}
-
-// The order of values is that of their bytes, so that values are compared as pieces.
-#[cycle(elements_named_value)]
-fn elements(bytes: &[u8], at: usize, height: usize) -> Checked
-    requires { (at ≤ length bytes.now) × ((0 < height) × (Got (read_elements height (drop at bytes.now)))) }
-    ensures is { result ≡ judged canonical_elements at (read_elements height (drop at bytes.now)) }
-    ensures within { (at ≤ result.end) × (result.end ≤ length bytes.now) }
+// The elements of a list, each behind the one before it, and where the list ends. A loop: an element is judged and its end found in one step, so an
+// iterator's item would have to say "not as kept" beside its end.
+#[cycle(element_at_list_value)]
+fn list(bytes: &[u8], at: usize, listed: Listed, height: usize) -> Option<usize>
+    requires { (at ≤ length bytes.now) × (Got (read_items listed height (drop at bytes.now))) }
+    ensures is { result ≡ judged (in_order listed) at (read_items listed height (drop at bytes.now)) }
+    ensures within { Within at (length bytes.now) result }
 {
     let mut end = at;
-    let mut last = None;
-    let mut ok = true;
+    let mut last: Option<&[u8]> = None;
     while bytes[end] == 1 {
-        let v = value(bytes, end + 1, height);
-        let here = Piece {
-            from: end + 1,
-            to: v.end,
-        };
-        let up = behind(bytes, last, here);
-        ok = ok & (up & v.ok);
-        last = Some(here);
-        end = v.end;
+        let here = element_at(bytes, end + 1, listed, height)?;
+        if !behind(last, here.key) {
+            return None;
+        }
+        last = Some(here.key);
+        end = here.end;
     }
-    Checked { end: end + 1, ok }
+    Some(end + 1)
 }
 
-// Attributes stand in the order of their names.
-#[cycle(elements_named_value)]
-fn named(bytes: &[u8], at: usize, height: usize) -> Checked
-    requires { (at ≤ length bytes.now) × (Got (read_named height (drop at bytes.now))) }
-    ensures is { result ≡ judged canonical_named at (read_named height (drop at bytes.now)) }
-    ensures within { (at ≤ result.end) × (result.end ≤ length bytes.now) }
-{
-    let mut end = at;
-    let mut last = None;
-    let mut ok = true;
-    while bytes[end] == 1 {
-        let here = name(bytes, end + 1);
-        let v = value(bytes, here.to, height);
-        let up = behind(bytes, last, here);
-        ok = ok & (up & v.ok);
-        last = Some(here);
-        end = v.end;
-    }
-    Checked { end: end + 1, ok }
-}
-
-#[cycle(elements_named_value)]
-fn value(bytes: &[u8], at: usize, height: usize) -> Checked
+#[cycle(element_at_list_value)]
+fn value(bytes: &[u8], at: usize, height: usize) -> Option<usize>
     requires { (at ≤ length bytes.now) × (Got (read_node height value (drop at bytes.now))) }
     ensures is { result ≡ judged canonical at (read_node height value (drop at bytes.now)) }
-    ensures within { (at ≤ result.end) × (result.end ≤ length bytes.now) }
+    ensures within { Within at (length bytes.now) result }
 {
-    let tag = bytes[at];
-    if tag == SET {
-        return elements(bytes, at + 1, height - 1);
+    let Ok(kind) = ValueKind::try_from(bytes[at]) else {
+        unreachable()
+    };
+    match kind {
+        ValueKind::Set => list(bytes, at + 1, Listed::Values, height - 1),
+        ValueKind::Record => list(bytes, at + 1, Listed::Attributes, height - 1),
+        ValueKind::Bool | ValueKind::Int | ValueKind::String | ValueKind::Entity => {
+            Some(node_end(bytes, at, Kind::Value, height))
+        }
     }
-    if tag == RECORD {
-        return named(bytes, at + 1, height - 1);
-    }
-    Checked {
-        end: end_of(bytes, at, Kind::Value, height),
-        ok: true,
-    }
-}
-
-// Names of entities are compared as values are, by their bytes.
-fn ancestors(bytes: &[u8], at: usize, height: usize) -> Checked
-    requires { (at ≤ length bytes.now) × ((0 < height) × (Got (read_uids height (drop at bytes.now)))) }
-    ensures is { result ≡ judged ascending_uids at (read_uids height (drop at bytes.now)) }
-    ensures within { (at ≤ result.end) × (result.end ≤ length bytes.now) }
-{
-    let mut end = at;
-    let mut last = None;
-    let mut ok = true;
-    while bytes[end] == 1 {
-        let here = Piece {
-            from: end + 1,
-            to: end_of(bytes, end + 1, Kind::Uid, height),
-        };
-        let up = behind(bytes, last, here);
-        ok = ok & up;
-        last = Some(here);
-        end = here.to;
-    }
-    Checked { end: end + 1, ok }
 }
 
 // A record that is no value: attributes, tags or a context.
-fn record(bytes: &[u8], at: usize, height: usize) -> Checked
+fn record(bytes: &[u8], at: usize, height: usize) -> Option<usize>
     requires { (at ≤ length bytes.now) × (Got (read_node height attrs (drop at bytes.now))) }
     ensures is { result ≡ judged canonical_record at (read_node height attrs (drop at bytes.now)) }
-    ensures within { (at ≤ result.end) × (result.end ≤ length bytes.now) }
+    ensures within { Within at (length bytes.now) result }
 {
-    named(bytes, at, height - 1)
+    list(bytes, at, Listed::Attributes, height - 1)
 }
 
-fn kept_entity(bytes: &[u8]) -> bool
+fn kept_entity(bytes: &[u8]) -> Option<usize>
     requires { (1 ≤ length bytes.now) × (Got (read_node call_height entity (drop 1 bytes.now))) }
-    ensures { result ≡ (judged kept_entity 1 (read_node call_height entity (drop 1 bytes.now))).ok }
+    ensures { result ≡ judged kept_entity 1 (read_node call_height entity (drop 1 bytes.now)) }
 {
-    let start = end_of(bytes, 1, Kind::Uid, FIELD_HEIGHT);
-    let attributes = record(bytes, start, FIELD_HEIGHT);
-    let above = ancestors(bytes, attributes.end, FIELD_HEIGHT);
-    let tags = record(bytes, above.end, FIELD_HEIGHT);
-    (attributes.ok & tags.ok) & above.ok
+    let attributes = node_end(bytes, CALL_START, Kind::Uid, PART_HEIGHT);
+    let ancestors = record(bytes, attributes, PART_HEIGHT)?;
+    let tags = list(bytes, ancestors, Listed::Ancestors, PART_HEIGHT)?;
+    record(bytes, tags, PART_HEIGHT)
 }
 
-fn kept_context(bytes: &[u8]) -> bool
+fn kept_request(bytes: &[u8]) -> Option<usize>
     requires { (1 ≤ length bytes.now) × (Got (read_node call_height request (drop 1 bytes.now))) }
-    ensures { result ≡ (judged (λ q. canonical_record q.context) 1 (read_node call_height request (drop 1 bytes.now))).ok }
+    ensures { result ≡ judged (λ q. canonical_record q.context) 1 (read_node call_height request (drop 1 bytes.now)) }
 {
-    let action = end_of(bytes, 1, Kind::Uid, FIELD_HEIGHT);
-    let resource = end_of(bytes, action, Kind::Uid, FIELD_HEIGHT);
-    let context = end_of(bytes, resource, Kind::Uid, FIELD_HEIGHT);
-    record(bytes, context, FIELD_HEIGHT).ok
+    let action = node_end(bytes, CALL_START, Kind::Uid, PART_HEIGHT);
+    let resource = node_end(bytes, action, Kind::Uid, PART_HEIGHT);
+    let context = node_end(bytes, resource, Kind::Uid, PART_HEIGHT);
+    record(bytes, context, PART_HEIGHT)
 }
 
 // Of a call as it was scanned: whether it may be done, so far as its bytes tell.
@@ -228,19 +148,15 @@ pub fn admissible(bytes: &[u8], call: Scanned) -> bool
     requires { ok call ≡ scanned (decode bytes.now) }
     ensures { result ≡ admissible (decode bytes.now) }
 {
-    if call.tag == PUT_POLICY {
-        return call.size <= MOST_SIZE;
+    match call.call {
+        CallKind::PutPolicy => call.size <= MOST_SIZE,
+        CallKind::PutEntity => kept_entity(bytes).is_some(),
+        CallKind::Authorize => call.size <= MOST_SIZE && kept_request(bytes).is_some(),
+        CallKind::SetSchema
+        | CallKind::RemovePolicy
+        | CallKind::RemoveEntity
+        | CallKind::ValidatePolicies => true,
     }
-    if call.tag == PUT_ENTITY {
-        return kept_entity(bytes);
-    }
-    if call.tag == AUTHORIZE {
-        if call.size > MOST_SIZE {
-            return false;
-        }
-        return kept_context(bytes);
-    }
-    true
 }
 
 #[cfg(test)]
@@ -251,13 +167,11 @@ mod tests {
     use std::test::Fail;
 
     fn told(rt: &impl Abort, bytes: &[u8], expected: bool) -> Result<(), Fail> {
-        match scan(bytes) {
-            Ok(call) => {
-                assert!(rt; admissible(bytes, call) == expected);
-                Ok(())
-            },
-            Err(_) => Err(Fail::new("no call")),
-        }
+        let Ok(call) = scan(bytes) else {
+            return Err(Fail::new("no call"));
+        };
+        assert!(rt; admissible(bytes, call) == expected);
+        Ok(())
     }
 
     #[test]

@@ -7,7 +7,10 @@ use Rattle.spec.specs.Values.{Value, to_values, to_attrs, code_text}
 use Rattle.rows.specs.Rows.{rows_of, lengthed, count_values, count_fields, behind_of, entries, behind_all, attr_entries, behind_attrs}
 use Rattle.wire.specs.Read.{Read, got, read_list}
 use Rattle.copy.specs.Writing.{written}
-use Rattle.copy.specs.Placed.{set_row, record_row, value_slot, attr_slot, attr_behind}
+use Rattle.wire.specs.Grammar.{Contents}
+use Rattle.copy.specs.declared.values.Slots.{Slots}
+use Rattle.copy.specs.declared.values.Slots.TheVariants.{Values, Attributes}
+use Rattle.copy.specs.Placed.{set_row, record_row, value_slot, attr_slot, attr_behind, element_fields, element_slot, element_behind, width_of, node_row}
 use Rattle.copy.proofs.Writes.{written_none, written-before, written-more, written-long, written_apart}
 use Rattle.copy.proofs.Parts.{Part, Step, none_yet, none-behind, rows_append, rows-push}
 
@@ -37,6 +40,10 @@ module _ {X : Type 0} (slot : ℕ → X → List ℕ) (tail : X → List ℕ) wh
     slots-more : (o : ℕ) (x : X) (xs : List X) → length (slots o (x ∷ xs)) ≡ w + length (slots o xs)
     slots-more o x xs = omega (arith, length-append (slot o x) (slots (o + length (tail x)) xs), slots_same (o + length (tail x)) o xs, wide o x)
 
+    pub slots-long : (o : ℕ) (xs : List X) → length (slots o xs) ≡ w * length xs
+    slots-long o [] = omega arith
+    slots-long o (x ∷ xs) = omega (arith, slots-more o x xs, slots-long o xs)
+
     module _ (r : Bytes → Read X) (bs : Bytes) (at : ℕ) (xs : List ℕ) (to size : ℕ) where
       pub record Filling (end : ℕ) (rows : List ℕ) (entry next : ℕ) : Type 0 where
         pub part : Part r bs at end
@@ -46,9 +53,9 @@ module _ {X : Type 0} (slot : ℕ → X → List ℕ) (tail : X → List ℕ) wh
         pub next-at : next ≡ to + 2 + size + length (rows_of tail part.before)
         pub is : rows ≡ written (written xs (to + 2) (slots (2 + size) part.before)) (to + 2 + size) (rows_of tail part.before)
 
-      abbrev pub filling-none : (all : List X) (n : ℕ) → read_list r 0 (drop at bs) ≡ got all n → size ≡ length (slots 0 all) → to + 2 + size + length (rows_of tail all) ≤ length xs → Filling at xs (to + 2) (to + 2 + size)
-      filling-none all n e f h =
-          record { part = none_yet r bs at all n e; full = f; room = h; entry_at = omega arith; next-at = omega arith; is = sym (ap (λ q. written q (to + 2 + size) []) (written_none xs (to + 2)) ∙ written_none xs (to + 2 + size)) }
+      abbrev pub filling-none : (all : List X) (n entry next : ℕ) → read_list r 0 (drop at bs) ≡ got all n → size ≡ length (slots 0 all) → to + 2 + size + length (rows_of tail all) ≤ length xs → entry ≡ to + 2 → next ≡ to + 2 + size → Filling at xs entry next
+      filling-none all n entry next e f h i j =
+          record { part = none_yet r bs at all n e; full = f; room = h; entry_at = omega (arith, i); next-at = omega (arith, j); is = sym (ap (λ q. written q (to + 2 + size) []) (written_none xs (to + 2)) ∙ written_none xs (to + 2 + size)) }
 
       module _ (end : ℕ) (rows : List ℕ) (entry next : ℕ) (f : Filling end rows entry next) where
         pub filled-so-far : length rows ≡ length xs
@@ -74,7 +81,8 @@ module _ {X : Type 0} (slot : ℕ → X → List ℕ) (tail : X → List ℕ) wh
               let b = ap (λ q. length (rows_of tail q)) s.split ∙ length-append (tail s.one) (rows_of tail s.others) in
               (omega (arith, u.0, a, f.next-at), omega (arith, u.1, b))
 
-          pub filling-more : (end' : ℕ) (rows' : List ℕ) (entry' next' : ℕ) → rows' ≡ written (written rows next (tail s.one)) entry (slot (next - to) s.one) → end' ≡ end + 1 + s.takes → entry' ≡ entry + w → next' ≡ next + length (tail s.one) → Filling end' rows' entry' next'
+          pub filling-more : (end' : ℕ) (rows' : List ℕ) (entry' next' : ℕ) → rows' ≡ written (written rows next (tail s.one)) entry (slot (next - to) s.one) → end' ≡ end + 1 + s.takes → entry' ≡ entry + w → next' ≡ next + length (tail s.one) →
+              (f' : Filling end' rows' entry' next') × (f'.part.before ≡ f.part.before ++ (s.one ∷ [])) × (f'.part.behind ≡ s.others)
           filling-more end' rows' entry' next' e h i j =
               let p = f.part in
               let x = s.one in
@@ -94,6 +102,7 @@ module _ {X : Type 0} (slot : ℕ → X → List ℕ) (tail : X → List ℕ) wh
               ap (slots (2 + size)) q.1 ∙ slots-push (2 + size) p.before x ∙ ap (λ m. E ++ slot m x) (omega (arith, f.next-at)) in
               let zero : slots 0 q.0.before ≡ slots 0 p.before ++ slot (0 + length (rows_of tail p.before)) x = ap (slots 0) q.1 ∙ slots-push 0 p.before x in
               let long = length-append (slots 0 p.before) (slot (0 + length (rows_of tail p.before)) x) in
+              let made : Filling end' rows' entry' next' =
               record {
                 part = q.0;
                 full = f.full ∙ ap (λ z. length (slots 0 z)) (sym same);
@@ -106,6 +115,7 @@ module _ {X : Type 0} (slot : ℕ → X → List ℕ) (tail : X → List ℕ) wh
                     ∙ ap (λ z. written z b (B ++ tail x)) (written-more xs (to + 2) E (slot (next - to) x) entry (omega (arith, lE, f.entry_at)) (omega (arith, u.0, f.room)) ∙ ap (λ z. written xs (to + 2) z) (sym front))
                     ∙ ap (λ z. written (written xs (to + 2) (slots (2 + size) q.0.before)) b z) (sym behind);
               }
+              in (made, q.1, q.2)
 
         -- all elements are in it, and now its head is written
         module _ (z : get_or bs end 0 ≡ 0) (count : ℕ) where
@@ -131,12 +141,8 @@ module _ {X : Type 0} (slot : ℕ → X → List ℕ) (tail : X → List ℕ) wh
               )
 
 -- ---- sets
-pub two-wide : (o : ℕ) (v : Value) → length (value_slot o v) ≡ 2
+two-wide : (o : ℕ) (v : Value) → length (value_slot o v) ≡ 2
 two-wide o v = omega arith
-
-pub slots-of-set : (o : ℕ) (vs : List Value) → length (slots value_slot behind_of o vs) ≡ 2 * length vs
-slots-of-set o [] = omega arith
-slots-of-set o (v ∷ vs) = omega (arith, slots-of-set (o + length (behind_of v)) vs)
 
 set-row : (vs : List Value) → set_row vs ≡ lengthed (length vs) (slots value_slot behind_of (2 + 2 * length vs) vs) (rows_of behind_of vs)
 set-row vs =
@@ -156,19 +162,12 @@ set-row vs =
     backs [] = refl
     backs (u ∷ us) = ap (λ b. behind_of u ++ b) (backs us)
 
-pub set-whole : (n : ℕ) (vs : List Value) → n ≡ length vs → set_row vs ≡ lengthed n (slots value_slot behind_of (2 + 2 * n) vs) (rows_of behind_of vs)
+set-whole : (n : ℕ) (vs : List Value) → n ≡ length vs → set_row vs ≡ lengthed n (slots value_slot behind_of (2 + 2 * n) vs) (rows_of behind_of vs)
 set-whole n vs e = set-row vs ∙ ap (λ k. lengthed k (slots value_slot behind_of (2 + 2 * k) vs) (rows_of behind_of vs)) (sym e)
 
-pub set_long : (vs : List Value) → length (set_row vs) ≡ 2 + 2 * length vs + length (rows_of behind_of vs)
-set_long vs = omega (arith, ap length (set-row vs), length-append (slots value_slot behind_of (2 + 2 * length vs) vs) (rows_of behind_of vs), slots-of-set (2 + 2 * length vs) vs)
-
 -- ---- records
-pub three-wide : (o : ℕ) (f : Text × Value) → length (attr_slot o f) ≡ 3
+three-wide : (o : ℕ) (f : Text × Value) → length (attr_slot o f) ≡ 3
 three-wide o f = omega arith
-
-pub slots-of-record : (o : ℕ) (fs : List (Text × Value)) → length (slots attr_slot attr_behind o fs) ≡ 3 * length fs
-slots-of-record o [] = omega arith
-slots-of-record o (f ∷ fs) = omega (arith, slots-of-record (o + length (attr_behind f)) fs)
 
 record-row : (fs : List (Text × Value)) → record_row fs ≡ lengthed (length fs) (slots attr_slot attr_behind (2 + 3 * length fs) fs) (rows_of attr_behind fs)
 record-row fs =
@@ -190,8 +189,24 @@ record-row fs =
     backs [] = refl
     backs (g ∷ gs) = ap (λ b. code_text g.0 ++ (behind_of g.1 ++ b)) (backs gs) ∙ sym (append_assoc (code_text g.0) (behind_of g.1) (rows_of attr_behind gs))
 
-pub record-whole : (n : ℕ) (fs : List (Text × Value)) → n ≡ length fs → record_row fs ≡ lengthed n (slots attr_slot attr_behind (2 + 3 * n) fs) (rows_of attr_behind fs)
+record-whole : (n : ℕ) (fs : List (Text × Value)) → n ≡ length fs → record_row fs ≡ lengthed n (slots attr_slot attr_behind (2 + 3 * n) fs) (rows_of attr_behind fs)
 record-whole n fs e = record-row fs ∙ ap (λ k. lengthed k (slots attr_slot attr_behind (2 + 3 * k) fs) (rows_of attr_behind fs)) (sym e)
 
-pub record-long : (fs : List (Text × Value)) → length (record_row fs) ≡ 2 + 3 * length fs + length (rows_of attr_behind fs)
-record-long fs = omega (arith, ap length (record-row fs), length-append (slots attr_slot attr_behind (2 + 3 * length fs) fs) (rows_of attr_behind fs), slots-of-record (2 + 3 * length fs) fs)
+-- ---- both
+pub width-few : (s : Slots) → (1 ≤ width_of s) × (width_of s ≤ 3)
+width-few Values = (omega arith, omega arith)
+width-few Attributes = (omega arith, omega arith)
+
+pub slot-wide : (s : Slots) (o : ℕ) (x : Contents (element_fields s)) → length (element_slot s o x) ≡ width_of s
+slot-wide Values o v = two-wide o v
+slot-wide Attributes o f = three-wide o f
+
+pub node-whole : (s : Slots) (n : ℕ) (xs : List (Contents (element_fields s))) → n ≡ length xs → node_row s xs ≡ lengthed n (slots (element_slot s) (element_behind s) (2 + width_of s * n) xs) (rows_of (element_behind s) xs)
+node-whole Values n vs e = set-whole n vs e
+node-whole Attributes n fs e = record-whole n fs e
+
+pub node-long : (s : Slots) (xs : List (Contents (element_fields s))) → length (node_row s xs) ≡ 2 + width_of s * length xs + length (rows_of (element_behind s) xs)
+node-long s xs =
+    let front = slots (element_slot s) (element_behind s) (2 + width_of s * length xs) xs in
+    let back = rows_of (element_behind s) xs in
+    omega (arith, ap length (node-whole s (length xs) xs refl), length-append front back, slots-long (element_slot s) (element_behind s) (width_of s) (slot-wide s) (2 + width_of s * length xs) xs)

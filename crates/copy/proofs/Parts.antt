@@ -1,13 +1,13 @@
 -- A list while it is walked: some of its elements lie before a place, and the others behind it.
 use Rattle.std.proofs.Common.{◌≡◌, ℕ, zero, suc, ◌+◌, ◌<◌, ◌≤◌, Bool, true, false, cond, eqb, List, [], ◌∷◌, ◌++◌, length, get_or, drop, sym, refl, ap, ◌∙◌, ⊎_elim, arith}
 use Rattle.std.proofs.lemmas.List.{append_assoc, append-nil, drop_more, drop_all, drop-drop, length_push}
-use Rattle.std.proofs.lemmas.Bool.{eqb-true, cases_lt}
+use Rattle.std.proofs.lemmas.Bool.{eqb-true, cases_lt, cases_eq}
 use Rattle.spec.specs.Bytes.{Bytes}
 use Rattle.rows.specs.Rows.{rows_of}
 use Rattle.wire.specs.Read.{Read, got, stops, past, next, read_list}
 use Rattle.wire.proofs.Exact.{got-stops, got-long, got_same}
 use Rattle.reader.proofs.Along.{list-skip, list-one}
-use Rattle.copy.specs.Placed.{end_of, walked}
+use Rattle.copy.specs.Placed.{how_many}
 use Rattle.copy.proofs.There.{turn-there}
 
 pub past-there : {X : Type 0} (n : ℕ) (R : Read X) (x : X) (m : ℕ) → past n R ≡ got x m → (k : ℕ) × (R ≡ got x k) × (m ≡ n + k)
@@ -106,6 +106,14 @@ module _ {X : Type 0} (r : Bytes → Read X) (bs : Bytes) (at : ℕ) where
           );
         }
 
+  module _ (end : ℕ) (p : Part r bs at end) where
+    -- what is left tells the byte
+    pub more-there : 0 < length p.behind → get_or bs end 0 ≡ 1
+    more-there h = ⊎_elim (λ q. q) (λ q. absurd (omega (arith, ap length (none-behind end p ((byte-there end p).1 q))))) (cases_eq (get_or bs end 0) 1)
+
+    pub none-left : length p.behind ≡ 0 → get_or bs end 0 ≡ 0
+    none-left h = ⊎_elim (λ q. absurd (omega (arith, ap length (step end p q).split))) (λ q. (byte-there end p).1 q) (cases_eq (get_or bs end 0) 1)
+
 pub rows_append : {X : Type 0} (f : X → List ℕ) (xs ys : List X) → rows_of f (xs ++ ys) ≡ rows_of f xs ++ rows_of f ys
 rows_append f [] ys = refl
 rows_append f (x ∷ xs) ys = ap (λ zs. f x ++ zs) (rows_append f xs ys) ∙ sym (append_assoc (f x) (rows_of f xs) (rows_of f ys))
@@ -113,16 +121,9 @@ rows_append f (x ∷ xs) ys = ap (λ zs. f x ++ zs) (rows_append f xs ys) ∙ sy
 pub rows-push : {X : Type 0} (f : X → List ℕ) (xs : List X) (x : X) → rows_of f (xs ++ (x ∷ [])) ≡ rows_of f xs ++ f x
 rows-push f xs x = rows_append f xs (x ∷ []) ∙ ap (λ zs. rows_of f xs ++ zs) (append-nil (f x))
 
--- where one thing ends that is read
-pub end-of : {X : Type 0} (at e : ℕ) (R : Read X) (x : X) (n : ℕ) → e ≡ end_of at R → R ≡ got x n → e ≡ at + n
-end-of at e R x n h q = h ∙ ap (λ S. end_of at S) q
-
 -- one element more was passed over
 pub part-more : {X : Type 0} (r : Bytes → Read X) (bs : Bytes) (at end count e : ℕ) (p : Part r bs at end) (s : Step r bs at end p) → count ≤ end → count ≡ length p.before → e ≡ end + 1 + s.takes → (q : Part r bs at e) × (count + 1 ≤ e) × (count + 1 ≡ length q.before)
 part-more r bs at end count e p s h c k = let q = s.on e k in (q.0, omega (arith, h, k), omega (arith, c, ap length q.1, length_push p.before s.one))
 
-pub all-walked : {X : Type 0} (r : Bytes → Read X) (bs : Bytes) (at end count : ℕ) (p : Part r bs at end) → get_or bs end 0 ≡ 0 → count ≡ length p.before → record { count = count; end = end + 1 } ≡ walked at (read_list r 0 (drop at bs))
-all-walked r bs at end count p z c =
-    let a = all_there r bs at end p z in
-    let q : record { count = count; end = end + 1 } ≡ walked at (got p.before p.long) = (λ i. record { count = c i; end = a.1 i }) in
-    q ∙ ap (λ R. walked at R) (sym a.0)
+pub all-counted : {X : Type 0} (r : Bytes → Read X) (bs : Bytes) (at end count : ℕ) (p : Part r bs at end) → get_or bs end 0 ≡ 0 → count ≡ length p.before → count ≡ how_many (read_list r 0 (drop at bs))
+all-counted r bs at end count p z c = c ∙ ap how_many (sym (all_there r bs at end p z).0)

@@ -232,7 +232,7 @@ pub record Tagging (k : Kind) (table : List Form) (bs : Bytes) (at : ℕ) (g : T
   pub head : (row : List ℕ) → plain k ≡ true → headed_as k g row ≡ headed (get_or bs at 0) row
 
 -- the table's row past its end
-beyond : Form
+abbrev pub beyond : Form
 beyond = record { inner = false; fields = record { ref_ptr = (0, 0); now = [] } }
 
 module _ (k : Kind) (table : List Form) (e : by_tag (table_of table) ≡ forms_in k) (h b : ℕ) (rest : Bytes) (g : Tag k) (n : ℕ) (is : read_tag k h (b ∷ rest) ≡ got g n) where

@@ -5,7 +5,8 @@ use Rattle.std.proofs.lemmas.Bool.{leb-true, eqb-true}
 use Rattle.std.proofs.lemmas.List.{length-drop, length-take-le, drop-drop, get_or-drop}
 use Rattle.spec.specs.Bytes.{Bytes}
 use Rattle.spec.specs.Basics.{Text}
-use Rattle.wire.specs.Read.{Read, got, stops, past, turn, follow, big_endian, read_word, read_run, read_text, read_elements, read_pattern}
+use Rattle.wire.specs.Read.{Read, got, stops, past, turn, follow, read_word, read_run, read_text, read_elements, read_pattern}
+use Rattle.words.specs.Words.{big_endian}
 use Rattle.wire.proofs.Exact.{got-stops, got-long, got_same}
 
 pub some_same : {X : Type 0} (x y : X) → some x ≡ some y → x ≡ y

@@ -8,16 +8,17 @@ use Rattle.spec.specs.Basics.{Text}
 use Rattle.spec.specs.Values.{Value, Attrs}
 use Rattle.laws.proofs.Texts.{none-some}
 use Rattle.rows.specs.Rows.{value_tag, payload, behind_of, row_attrs}
-use Rattle.wire.specs.Read.{Read, got, past, turn, nth, got_one, big_endian, read_word, read_text, read_one, read_list}
+use Rattle.wire.specs.Read.{Read, got, past, turn, nth, got_one, read_word, read_text, read_one, read_list}
+use Rattle.words.specs.Words.{big_endian}
 use Rattle.wire.specs.Tags.{ValueTag, bool_tag, int_tag, string_tag, entity_tag, set_tag, record_tag}
 use Rattle.wire.specs.Grammar.{value, attrs, truth, choices, Contents, value_tags, inner_value, value_fields, make_value, text, two, node, admitted, read_tag_of, read_tag, read_fields, read_node}
 use Rattle.wire.proofs.Exact.{got-stops, got-long}
 use Rattle.wire.proofs.Fields.{nth_number}
 use Rattle.copy.specs.declared.leaves.Copied.{Copied}
 use Rattle.copy.specs.Copied.{row_fields}
-use Rattle.copy.specs.Writing.{written, done, after}
+use Rattle.copy.specs.Writing.{written, done, after, Room}
 use Rattle.copy.specs.Placed.{set_row, record_row}
-use Rattle.copy.proofs.Writes.{wrote, is-after}
+use Rattle.copy.proofs.Writes.{written_none, wrote, is-after}
 use Rattle.copy.proofs.There.{some_same, turn-there, word-there}
 use Rattle.copy.proofs.Parts.{past-there, list-byte}
 use Rattle.copy.proofs.Pieces.{Node, node-there, nth-there, small-there}
@@ -117,12 +118,6 @@ part-there {B} R c n e =
     let v = turn-there (λ y. (tt, y)) R c w.0 w.1 in
     v.1 ∙ ap (λ (z : Unit {0} × B). got z.1 w.0) (sym v.2) ∙ ap (λ k. got c.1 k) (omega (arith, w.2))
 
--- a row that was written from the byte behind the tag on is that of the value
-pub lifted : {X : Type 0} (f : X → List ℕ) (R : Read X) (S : Read Value) (x : X) (k : ℕ) (v : Value) (n : ℕ) (xs ys : List ℕ) (to at : ℕ) (r : Copied) → R ≡ got x k → S ≡ got v n → behind_of v ≡ f x → n ≡ 1 + k → done ys r ≡ after f xs to (at + 1) R → done ys r ≡ after behind_of xs to at S
-lifted f R S x k v n xs ys to at r p q e l d =
-    let w = wrote f xs ys to (at + 1) r R x k d p in
-    is-after behind_of xs ys to at r S v n q (record { rows = w.rows ∙ ap (λ z. written xs to z) (sym e); ends = omega (arith, w.ends, l); goes = w.goes ∙ ap (λ z. to + length z) (sym e) })
-
 module _ (bs : Bytes) (at h : ℕ) (v : Value) (n : ℕ) (a : ValueAt bs at h v n) where
   pub truth-held : get_or bs at 0 ≡ 0 → (at + 1 < length bs) × ((o : ℕ) → payload v o ≡ get_or bs (at + 1) 0) × (n ≡ 2) × (behind_of v ≡ [])
   truth-held e =
@@ -158,6 +153,24 @@ module _ (bs : Bytes) (at h : ℕ) (v : Value) (n : ℕ) (a : ValueAt bs at h v 
 
   pub record-held : get_or bs at 0 ≡ 5 → (fs : List (Text × Value)) × (read_list (read_fields (read_node (h - 1)) (two text (node value))) 0 (drop (at + 1) bs) ≡ got fs a.rest) × (behind_of v ≡ record_row fs)
   record-held e = let f = formed bs at h v n a 5 record_tag e refl in (f.holds.1, part-there (read_list (read_fields (read_node (h - 1)) (two text (node value))) 0 (drop (at + 1) bs)) f.holds a.rest f.reads, ap behind_of f.is)
+
+-- ---- a value that is copied: what it holds has room behind its tag, and what was copied of that is what was copied of the value
+module _ (bs : Bytes) (at h to len : ℕ) (room : Room behind_of (read_node h value (drop at bs)) to len) where
+  pub value-at : ValueAt bs at h room.what room.long
+  value-at = value_there bs at h room.what room.long room.is
+
+  module _ {X : Type 0} (f : X → List ℕ) (R : Read X) (w : (x : X) × (R ≡ got x value-at.rest) × (behind_of room.what ≡ f x)) where
+    pub held-room : Room f R to len
+    held-room = record { what = w.0; long = value-at.rest; is = w.1; fits = omega (arith, room.fits, ap length w.2) }
+
+    pub held-done : (xs ys : List ℕ) (r : Copied) → done ys r ≡ after f xs to (at + 1) R → done ys r ≡ after behind_of xs to at (read_node h value (drop at bs))
+    held-done xs ys r d =
+        let v = wrote f xs ys to (at + 1) r R w.0 value-at.rest d w.1 in
+        is-after behind_of xs ys to at r _ room.what room.long room.is (record { rows = v.rows ∙ ap (λ z. written xs to z) (sym w.2); ends = omega (arith, v.ends, value-at.long); goes = v.goes ∙ ap (λ z. to + length z) (sym w.2) })
+
+  -- one that lies in its payload
+  pub held-none : (xs : List ℕ) (e : ℕ) → behind_of room.what ≡ [] → room.long ≡ e → done xs (record { end = at + e; to = to }) ≡ after behind_of xs to at (read_node h value (drop at bs))
+  held-none xs e n l = is-after behind_of xs xs to at (record { end = at + e; to = to }) _ room.what room.long room.is (record { rows = sym (written_none xs to) ∙ ap (λ q. written xs to q) (sym n); ends = omega (arith, l); goes = omega (arith, ap length n) })
 
 -- ---- a record of attributes that stands by itself
 pub record AttrsAt (bs : Bytes) (at h : ℕ) (x : Attrs) (n : ℕ) : Type 0 where

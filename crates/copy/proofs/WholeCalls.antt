@@ -1,18 +1,19 @@
 -- What stands in the bytes of a call.
-use Rattle.std.proofs.Common.{◌≡◌, ℕ, zero, suc, ◌+◌, ◌<◌, ◌≤◌, Bool, true, false, cond, eqb, List, [], ◌∷◌, map, length, get_or, drop, sym, refl, ap, ◌∙◌, subst, arith}
+use Rattle.std.proofs.Common.{◌≡◌, ℕ, ◌+◌, ◌≤◌, Bool, true, false, cond, ◌⊎◌, eqb, List, [], ◌∷◌, length, get_or, drop, IsOk, sym, refl, ap, ◌∙◌, subst, ⊎_elim, arith}
 use mathlib.Core.Option.{Option, some, none}
-use Rattle.std.proofs.lemmas.List.{get_or-map, length-map}
 use Rattle.spec.specs.Bytes.{Bytes}
 use Rattle.spec.specs.Calls.{Call, set_schema, put_policy, remove_policy, put_entity, remove_entity, validate_policies, authorize, malformed}
-use Rattle.laws.proofs.Texts.{none-some}
+use Rattle.laws.proofs.Texts.{none-some, false-true}
 use Rattle.wire.specs.Read.{Read, got, stops, turn, nth, got_one, read_one}
 use Rattle.wire.specs.Tags.{CallTag, set_schema_tag, put_policy_tag, remove_policy_tag, put_entity_tag, remove_entity_tag, validate_tag, authorize_tag}
 use Rattle.wire.specs.Grammar.{Fields, Contents, call_tags, call_fields, make_call, read_fields, read_node, call_height, read_call, whole, decode}
-use Rattle.wire.proofs.Exact.{got-stops, got-long}
-use Rattle.reader.specs.declared.grammar.Form.{Form}
-use Rattle.reader.specs.Code.{fields_of, row_of, table_of}
+use Rattle.wire.proofs.Exact.{got-stops, got-long, got_same}
+use Rattle.reader.specs.declared.grammar.CallKind.{CallKind}
+use Rattle.reader.specs.declared.grammar.CallKind.TheVariants.{SetSchema, PutPolicy, RemovePolicy, RemoveEntity, ValidatePolicies}
+use Rattle.reader.specs.Code.{call_of}
+use Rattle.reader.specs.Found.{scanned}
 use Rattle.copy.specs.declared.leaves.Copied.{Copied}
-use Rattle.copy.specs.Copied.{row_fields}
+use Rattle.copy.specs.Copied.{row_fields, plain_fields}
 use Rattle.copy.specs.Writing.{written, done, after, Room}
 use Rattle.copy.specs.Carried.{row_call}
 use Rattle.copy.proofs.Writes.{wrote}
@@ -51,17 +52,18 @@ pub record There (bs : Bytes) (g : CallTag) : Type 0 where
   pub what : Contents (call_fields g)
   pub long : ℕ
   pub some_bytes : 1 ≤ length bs
+  pub byte : nth call_tags (get_or bs 0 0) ≡ some g
   pub reads : read_fields (read_node call_height) (call_fields g) (drop 1 bs) ≡ got what long
   pub is : decode bs ≡ make_call g what
 
-one_byte : {X : Type 0} (xs : List X) (bs : Bytes) (x : X) (n : ℕ) → read_one xs bs ≡ got x n → (1 ≤ length bs) × (n ≡ 1)
+one_byte : {X : Type 0} (xs : List X) (bs : Bytes) (x : X) (n : ℕ) → read_one xs bs ≡ got x n → (1 ≤ length bs) × (n ≡ 1) × (nth xs (get_or bs 0 0) ≡ some x)
 unfolding read_one
 one_byte xs [] x n e = got-stops x n 0 (sym e)
-one_byte {X} xs (b ∷ bs) x n e = go (nth xs b) e
+one_byte {X} xs (b ∷ bs) x n e = go (nth xs b) refl e
   where
-    go : (o : Option X) → got_one o ≡ got x n → (1 ≤ length (b ∷ bs)) × (n ≡ 1)
-    go (some y) q = (omega arith, sym (got-long _ _ _ _ q))
-    go none q = got-stops x n 0 (sym q)
+    go : (o : Option X) → nth xs b ≡ o → got_one o ≡ got x n → (1 ≤ length (b ∷ bs)) × (n ≡ 1) × (nth xs b ≡ some x)
+    go (some y) p q = (omega arith, sym (got-long _ _ _ _ q), p ∙ ap (λ z. some z) (got_same _ _ _ _ q))
+    go none p q = got-stops x n 0 (sym q)
 
 decoded : (bs : Bytes) (g : CallTag) → tag_of (decode bs) ≡ some g → (n : ℕ) × (read_call bs ≡ got (decode bs) n)
 unfolding decode
@@ -75,14 +77,41 @@ call-there bs g e =
     let v = turn-there (make_call w.0) _ (decode bs) w.2 w.4 in
     let b = one_byte call_tags bs w.0 w.1 w.3 in
     let same : w.0 ≡ g = some_same _ _ (sym (made w.0 v.0) ∙ ap tag_of (sym v.2) ∙ e) in
-    subst (There bs) same (record { what = v.0; long = w.2; some_bytes = b.0; reads = ap (λ n. read_fields (read_node call_height) (call_fields w.0) (drop n bs)) (sym b.1) ∙ v.1; is = v.2 })
+    subst (There bs) same (record { what = v.0; long = w.2; some_bytes = b.0; byte = b.2; reads = ap (λ n. read_fields (read_node call_height) (call_fields w.0) (drop n bs)) (sym b.1) ∙ v.1; is = v.2 })
 
--- ---- the row of what a call carries is that of its fields
-pub row-schema : (x : Contents (call_fields set_schema_tag)) → row_call (make_call set_schema_tag x) ≡ row_fields (call_fields set_schema_tag) x
-row-schema x = refl
+-- ---- what a call is whose bytes were scanned
+tagged : (c : Call) → IsOk (scanned c) → (g : CallTag) × (tag_of c ≡ some g)
+tagged (set_schema s) h = (set_schema_tag, refl)
+tagged (put_policy p) h = (put_policy_tag, refl)
+tagged (remove_policy t) h = (remove_policy_tag, refl)
+tagged (put_entity e) h = (put_entity_tag, refl)
+tagged (remove_entity u) h = (remove_entity_tag, refl)
+tagged validate_policies h = (validate_tag, refl)
+tagged (authorize q) h = (authorize_tag, refl)
+tagged (malformed k) h = false-true h
 
-pub row-policy : (x : Contents (call_fields put_policy_tag)) → row_call (make_call put_policy_tag x) ≡ row_fields (call_fields put_policy_tag) x
-row-policy x = refl
+pub called : (bs : Bytes) → IsOk (scanned (decode bs)) → (g : CallTag) × There bs g
+called bs h = let w = tagged (decode bs) h in (w.0, call-there bs w.0 w.1)
+
+-- its first byte tells it
+pub told-there : (bs : Bytes) (k : CallKind) → IsOk (scanned (decode bs)) → nth call_tags (get_or bs 0 0) ≡ some (call_of k) → There bs (call_of k)
+told-there bs k h e = let w = called bs h in let same : w.0 ≡ call_of k = some_same _ _ (sym w.1.byte ∙ e) in subst (There bs) same w.1
+
+-- one of two or three kinds
+pub told_as : (bs : Bytes) (k m : CallKind) → k ≡ m → There bs (call_of k) → There bs (call_of m)
+told_as bs k m e t = subst (λ z. There bs (call_of z)) e t
+
+-- ---- a schema and a policy: the row is that of the fields
+abbrev IsFlat : CallKind → Type 0
+IsFlat k = ((x : Contents (call_fields (call_of k))) → row_call (make_call (call_of k) x) ≡ row_fields (call_fields (call_of k)) x) × (plain_fields (call_fields (call_of k)) ≡ true)
+
+pub flat-call : (k : CallKind) → (k ≡ SetSchema) ⊎ (k ≡ PutPolicy) → IsFlat k
+flat-call k e = ⊎_elim (λ q. subst IsFlat (sym q) (λ x. refl, refl)) (λ q. subst IsFlat (sym q) (λ x. refl, refl)) e
+
+-- ---- a call that carries no tree
+pub no_row : (bs : Bytes) (k : CallKind) → (k ≡ RemovePolicy) ⊎ ((k ≡ RemoveEntity) ⊎ (k ≡ ValidatePolicies)) → There bs (call_of k) → row_call (decode bs) ≡ []
+no_row bs k e t =
+    ⊎_elim (λ q. ap row_call (told_as bs k RemovePolicy q t).is) (λ r. ⊎_elim (λ q. ap row_call (told_as bs k RemoveEntity q t).is) (λ q. ap row_call (told_as bs k ValidatePolicies q t).is) r) e
 
 -- ---- a call that is copied field by field
 module _ (bs : Bytes) (g : CallTag) (rows : (x : Contents (call_fields g)) → row_call (make_call g x) ≡ row_fields (call_fields g) x) (to len : ℕ) (t : There bs g) (fits : to + length (row_call (decode bs)) ≤ len) (fs : Fields) (shape : fs ≡ call_fields g) where
@@ -100,19 +129,3 @@ module _ (bs : Bytes) (g : CallTag) (rows : (x : Contents (call_fields g)) → r
       let P : Fields → Type 0 = λ s. done ys r ≡ after (row_fields s) xs to 1 (read_fields (read_node call_height) s (drop 1 bs)) in
       let w = wrote (row_fields (call_fields g)) xs ys to 1 r _ t.what t.long (subst P shape e) t.reads in
       (w.rows ∙ ap (λ zs. written xs to zs) (sym row), w.goes ∙ ap (λ zs. to + length zs) (sym row))
-
--- ---- the table of calls
-abbrev pub form_of : CallTag → Bool × Fields
-form_of g = (false, call_fields g)
-
-nth-row : (gs : List CallTag) (j : ℕ) (h : CallTag) → nth gs j ≡ some h → (j < length (map form_of gs)) × ((r : Bool × Fields) → get_or (map form_of gs) j r ≡ form_of h)
-nth-row [] j h q = none-some q
-nth-row (k ∷ ks) zero h q = (omega arith, λ r. ap form_of (some_same k h q))
-nth-row (k ∷ ks) (suc j) h q = let w = nth-row ks j h q in (omega (arith, w.0), w.1)
-
-module _ (table : List Form) (i : ℕ) (g : CallTag) (e : table_of table ≡ map form_of call_tags) (n : nth call_tags i ≡ some g) where
-  pub in_table : i < length table
-  in_table = omega (arith, (nth-row call_tags i g n).0, ap length e, length-map table row_of)
-
-  pub shape_at : (d : Form) → fields_of (get_or table i d).fields.now ≡ call_fields g
-  shape_at d = ap (λ (r : Bool × Fields). r.1) (sym (get_or-map row_of table i d (row_of d) in_table) ∙ ap (λ t. get_or t i (row_of d)) e ∙ (nth-row call_tags i g n).1 (row_of d))

@@ -1,6 +1,7 @@
 -- Rows written among others.
 use Rattle.std.proofs.Common.{◌≡◌, ℕ, ◌+◌, ◌-◌, ◌<◌, ◌≤◌, List, [], ◌∷◌, ◌++◌, length, get_or, take, drop, set, sym, ap, ◌∙◌, add-zero, arith}
 use Rattle.std.proofs.lemmas.List.{length-append, length-drop, length-take-le, append_assoc, take-append-drop, drop_more, take_more, set_at, take_at, take-take, take-append-le, drop_at, drop-drop, drop-append-le, drop-take}
+use borrow.Rule.Slice.PartMut.{put_mid}
 use Rattle.wire.proofs.Exact.{take_past}
 use Rattle.wire.specs.Read.{Read, got}
 use Rattle.copy.specs.declared.leaves.Copied.{Copied}
@@ -8,6 +9,10 @@ use Rattle.copy.specs.Writing.{written, done, after}
 
 pub written_none : (xs : List ℕ) (to : ℕ) → written xs to [] ≡ xs
 written_none xs to = rw (add-zero to) (take-append-drop to xs)
+
+-- a part of the rows was lent and written whole
+pub written-part : (xs : List ℕ) (to k : ℕ) (ys : List ℕ) → k ≡ length ys → put_mid to k xs ys ≡ written xs to ys
+written-part xs to k ys e = ap (λ zs. take to xs ++ (ys ++ zs)) (drop-drop k to xs ∙ ap (λ n. drop (to + n) xs) e)
 
 -- one behind
 pub written-push : (xs : List ℕ) (to : ℕ) (ys : List ℕ) (n y : ℕ) → n ≡ to + length ys → n < length xs → set (written xs to ys) n y ≡ written xs to (ys ++ (y ∷ []))

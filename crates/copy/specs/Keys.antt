@@ -1,5 +1,5 @@
 -- The key of what a call speaks of, by which it is kept: the id of a policy, or the name of an entity. Assumes nothing: these are definitions.
-use Rattle.std.specs.Prelude.{ℕ, Bool, true, false, List, []}
+use Rattle.std.specs.Prelude.{ℕ, List, []}
 use Rattle.spec.specs.Values.{code_text, code_uid}
 use Rattle.spec.specs.Calls.{Call, set_schema, put_policy, remove_policy, put_entity, remove_entity, validate_policies, authorize, malformed}
 
@@ -12,23 +12,3 @@ key_call (remove_entity u) = code_uid u
 key_call validate_policies = []
 key_call (authorize q) = []
 key_call (malformed k) = []
-
-abbrev pub names_policy : Call → Bool
-names_policy (set_schema s) = false
-names_policy (put_policy p) = true
-names_policy (remove_policy t) = true
-names_policy (put_entity e) = false
-names_policy (remove_entity u) = false
-names_policy validate_policies = false
-names_policy (authorize q) = false
-names_policy (malformed k) = false
-
-abbrev pub names_entity : Call → Bool
-names_entity (set_schema s) = false
-names_entity (put_policy p) = false
-names_entity (remove_policy t) = false
-names_entity (put_entity e) = true
-names_entity (remove_entity u) = true
-names_entity validate_policies = false
-names_entity (authorize q) = false
-names_entity (malformed k) = false

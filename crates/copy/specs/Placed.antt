@@ -5,25 +5,16 @@ use Rattle.spec.specs.Basics.{Text}
 use Rattle.spec.specs.Values.{Value, set, record_of, to_values, to_attrs, code_text}
 use Rattle.rows.specs.Rows.{value_tag, payload, behind_of}
 use Rattle.wire.specs.Read.{Read, got, stops}
+use Rattle.wire.specs.Grammar.{Fields, Contents, one, two, text, node, value}
 use Rattle.copy.specs.declared.leaves.Copied.{Copied}
-use Rattle.copy.specs.declared.walk.Walked.{Walked}
+use Rattle.copy.specs.declared.values.Slots.{Slots}
+use Rattle.copy.specs.declared.values.Slots.TheVariants.{Values, Attributes}
 use Rattle.copy.specs.Writing.{written}
 
--- it is read there
-pub record Stands {X : Type 0} (R : Read X) : Type 0 where
-  pub what : X
-  pub long : ℕ
-  pub is : R ≡ got what long
-
--- where it ends, or ceases to be one
-abbrev pub end_of : {X : Type 0} → ℕ → Read X → ℕ
-end_of at (got x n) = at + n
-end_of at (stops k) = at + k
-
--- how many things were read, and where they end
-abbrev pub walked : {X : Type 0} → ℕ → Read (List X) → Walked
-walked at (got xs n) = record { count = length xs; end = at + n }
-walked at (stops k) = record { count = 0; end = at + k }
+-- how many things were read
+abbrev pub how_many : {X : Type 0} → Read (List X) → ℕ
+how_many (got xs n) = length xs
+how_many (stops k) = 0
 
 -- ---- the node of a set, and that of a record
 abbrev pub set_row : List Value → List ℕ
@@ -41,6 +32,27 @@ attr_slot o f = o ∷ value_slot (o + length (code_text f.0)) f.1
 
 abbrev pub attr_behind : Text × Value → List ℕ
 attr_behind f = code_text f.0 ++ behind_of f.1
+
+-- ---- what a node holds, by what it has slots for
+abbrev pub element_fields : Slots → Fields
+element_fields Values = one (node value)
+element_fields Attributes = two text (node value)
+
+abbrev pub element_slot : (s : Slots) → ℕ → Contents (element_fields s) → List ℕ
+element_slot Values o v = value_slot o v
+element_slot Attributes o f = attr_slot o f
+
+abbrev pub element_behind : (s : Slots) → Contents (element_fields s) → List ℕ
+element_behind Values v = behind_of v
+element_behind Attributes f = attr_behind f
+
+abbrev pub width_of : Slots → ℕ
+width_of Values = 2
+width_of Attributes = 3
+
+abbrev pub node_row : (s : Slots) → List (Contents (element_fields s)) → List ℕ
+node_row Values vs = set_row vs
+node_row Attributes fs = record_row fs
 
 -- a slot was filled, and what lies behind it was written at a place further on
 pub record Filled (ys xs slot behind : List ℕ) (entry next at n : ℕ) (r : Copied) : Type 0 where

@@ -1,16 +1,22 @@
 // Copies what a call carries off its bytes into rows of numbers.
 #![tactic(auto)]
 
-ghost use Rattle.std.specs.Prelude.{◌≡◌, ◌+◌, length};
-ghost use Rattle.spec.specs.Calls.{set_schema, put_policy, put_entity, authorize};
-ghost use Rattle.wire.specs.Grammar.{decode};
+ghost use Rattle.std.specs.Prelude.{◌≡◌, ◌+◌, ◌≤◌, length, slice_index, IsOk};
+ghost use Rattle.std.proofs.Math.Option.{some};
+ghost use Rattle.spec.specs.Calls.{put_entity, authorize};
+ghost use Rattle.wire.specs.Read.{nth};
+ghost use Rattle.wire.specs.Grammar.{call_tags, decode};
+ghost use Rattle.reader.specs.Code.{call_of};
+ghost use Rattle.reader.specs.Found.{scanned};
 ghost use Rattle.copy.specs.Writing.{written};
 ghost use Rattle.copy.specs.Carried.{row_call, Carries, RoomBySize};
 
-use crate::plain::{fields, list, node};
+use crate::leaves::Copied;
+use crate::plain::{fields, node};
 use crate::values::attrs;
-use crate::walk::trees;
-use reader::grammar::{Items, Kind, calls, item_fields};
+use reader::ends::fields_end;
+use reader::grammar::{CallKind, Field, Items, Kind};
+use reader::scan::{CALL_HEIGHT, CALL_START, PART_HEIGHT};
 
 pub mod keys;
 mod leaves;
@@ -18,40 +24,41 @@ mod plain;
 mod values;
 mod walk;
 
-// Each of these takes the bytes of a call that was scanned, and writes the row of what it carries from `to` on: all else stays as it was. The answer is
-// where the row ends.
-
-// What stands in a call is of at most this height.
-const CALL_HEIGHT: usize = 66;
-
-// And so are the parts of an entity or a request of at most this one.
-const PART_HEIGHT: usize = 65;
-
-// What a call carries stands behind its first byte.
-const START: usize = 1;
-
-const SET_SCHEMA: usize = 0;
-
-const PUT_POLICY: usize = 1;
-
-pub fn schema(bytes: &[u8], rows: &mut [u64], to: usize) -> usize
-    requires { Carries set_schema (decode bytes.now) to (length rows.old) }
-    ensures writes { rows.new ≡ written rows.old to (row_call (decode bytes.now)) }
-    ensures ends { result ≡ to + length (row_call (decode bytes.now)) }
+// What the call does, by its first byte.
+fn call_kind(bytes: &[u8]) -> CallKind
+    requires { IsOk (scanned (decode bytes.now)) }
+    ensures { nth call_tags (slice_index bytes.now 0) ≡ some (call_of result) }
 {
-    let shape = calls()[SET_SCHEMA].fields;
-    let lists = fields(bytes, START, shape, CALL_HEIGHT, rows, to);
-    lists.to
+    let Ok(call) = CallKind::try_from(bytes[0]) else {
+        unreachable()
+    };
+    call
 }
 
-pub fn policy(bytes: &[u8], rows: &mut [u64], to: usize) -> usize
-    requires { Carries put_policy (decode bytes.now) to (length rows.old) }
+// Each of these takes the bytes of a call that was scanned, and writes the row of what it carries from `to` on: all else stays as it was. The answer is
+// where the row ends.
+// That the bytes are those of a call is a clause and no type: public functions take the bytes as the caller has them.
+
+// The row of a schema, a policy, an entity or a request, and nothing for a call that carries none of these.
+pub fn row(bytes: &[u8], rows: &mut [u64], to: usize) -> usize
+    requires call { IsOk (scanned (decode bytes.now)) }
+    requires room { to + length (row_call (decode bytes.now)) ≤ length rows.old }
     ensures writes { rows.new ≡ written rows.old to (row_call (decode bytes.now)) }
     ensures ends { result ≡ to + length (row_call (decode bytes.now)) }
 {
-    let shape = calls()[PUT_POLICY].fields;
-    let parts = fields(bytes, START, shape, CALL_HEIGHT, rows, to);
-    parts.to
+    let call = call_kind(bytes);
+    match call {
+        CallKind::SetSchema | CallKind::PutPolicy => {
+            let from = Copied {
+                end: CALL_START,
+                to,
+            };
+            fields(bytes, rows, from, call.fields(), CALL_HEIGHT).to
+        }
+        CallKind::PutEntity => entity(bytes, rows, to),
+        CallKind::Authorize => request(bytes, rows, to),
+        CallKind::RemovePolicy | CallKind::RemoveEntity | CallKind::ValidatePolicies => to,
+    }
 }
 
 // The tags stand behind the ancestors among the bytes, and before them in the row.
@@ -60,45 +67,43 @@ pub fn entity(bytes: &[u8], rows: &mut [u64], to: usize) -> usize
     ensures writes { rows.new ≡ written rows.old to (row_call (decode bytes.now)) }
     ensures ends { result ≡ to + length (row_call (decode bytes.now)) }
 {
-    let uid = node(bytes, START, Kind::Uid, PART_HEIGHT, rows, to);
-    let attributes = attrs(bytes, uid.end, PART_HEIGHT, rows, uid.to);
-    let ancestors = trees(bytes, attributes.end, Kind::Uid, PART_HEIGHT);
-    let tags = attrs(bytes, ancestors.end, PART_HEIGHT, rows, attributes.to);
-    list(
-        bytes,
-        attributes.end,
-        item_fields(Items::Uids),
-        PART_HEIGHT,
-        rows,
-        tags.to,
-    )
-    .to
+    let from = Copied {
+        end: CALL_START,
+        to,
+    };
+    let uid = node(bytes, rows, from, Kind::Uid, PART_HEIGHT);
+    let attributes = attrs(bytes, rows, uid, PART_HEIGHT);
+    let uids = &[Field::List(Items::Uids)];
+    let end = fields_end(bytes, attributes.end, uids, PART_HEIGHT);
+    let ancestors = Copied { end, ..attributes };
+    let tags = attrs(bytes, rows, ancestors, PART_HEIGHT);
+    let behind = Copied {
+        end: attributes.end,
+        ..tags
+    };
+    fields(bytes, rows, behind, uids, PART_HEIGHT).to
 }
 
+// The names of the principal, the action and the resource, and the context.
 pub fn request(bytes: &[u8], rows: &mut [u64], to: usize) -> usize
     requires { Carries authorize (decode bytes.now) to (length rows.old) }
     ensures writes { rows.new ≡ written rows.old to (row_call (decode bytes.now)) }
     ensures ends { result ≡ to + length (row_call (decode bytes.now)) }
 {
-    let principal = node(bytes, START, Kind::Uid, PART_HEIGHT, rows, to);
-    let action = node(
-        bytes,
-        principal.end,
-        Kind::Uid,
-        PART_HEIGHT,
-        rows,
-        principal.to,
-    );
-    let resource = node(bytes, action.end, Kind::Uid, PART_HEIGHT, rows, action.to);
-    attrs(bytes, resource.end, PART_HEIGHT, rows, resource.to).to
+    let from = Copied {
+        end: CALL_START,
+        to,
+    };
+    let principal = node(bytes, rows, from, Kind::Uid, PART_HEIGHT);
+    let action = node(bytes, rows, principal, Kind::Uid, PART_HEIGHT);
+    let resource = node(bytes, rows, action, Kind::Uid, PART_HEIGHT);
+    attrs(bytes, rows, resource, PART_HEIGHT).to
 }
 
 // How much room is enough, by the size that the scan of a call gives.
-pub fn room_by_size() -> u8
+pub fn room_by_size()
     ensures { RoomBySize }
-{
-    0
-}
+{}
 
 #[cfg(test)]
 mod tests {
@@ -109,9 +114,8 @@ mod tests {
 
     // As a caller does it: scan the call, see that there is room, and copy what it carries.
     fn copied(bytes: &[u8], rows: &mut [u64]) -> Result<usize, Fail> {
-        let call = match scan(bytes) {
-            Ok(call) => call,
-            Err(_) => return Err(Fail::new("no call")),
+        let Ok(call) = scan(bytes) else {
+            return Err(Fail::new("no call"));
         };
         if call.size > 1000 {
             return Err(Fail::new("large"));
@@ -119,19 +123,7 @@ mod tests {
         if 4 * call.size + 2 > rows.len() {
             return Err(Fail::new("no room"));
         }
-        if call.tag == 0 {
-            return Ok(schema(bytes, rows, 0));
-        }
-        if call.tag == 1 {
-            return Ok(policy(bytes, rows, 0));
-        }
-        if call.tag == 3 {
-            return Ok(entity(bytes, rows, 0));
-        }
-        if call.tag == 6 {
-            return Ok(request(bytes, rows, 0));
-        }
-        Err(Fail::new("it carries no tree"))
+        Ok(row(bytes, rows, 0))
     }
 
     // The row of what the call carries, and what stood behind it.
@@ -140,9 +132,7 @@ mod tests {
         let end = copied(bytes, &mut rows)?;
         assert!(rt; end == row.len());
         assert!(rt; end < 200);
-        for i in 0..end {
-            assert!(rt; rows[i] == row[i]);
-        }
+        assert!(rt; rows[..end] == row[..]);
         assert!(rt; rows[end] == 9);
         Ok(())
     }

@@ -1,4 +1,5 @@
 // Copies trees field by field: all but values, and what holds values.
+// That a place is among the bytes, and that no value is met, stay clauses: places change at each step, and the latter is three predicates of three shapes.
 ghost use Rattle.std.specs.Prelude.{◌≡◌, ◌+◌, ◌-◌, ◌≤◌, true, length, drop};
 ghost use Rattle.rows.specs.Rows.{counted};
 ghost use Rattle.wire.specs.Read.{read_list};
@@ -13,83 +14,69 @@ use reader::grammar::{Field, Forms, Kind, forms_of, item_fields};
 #[cycle(field_fields_list_node)]
 pub(crate) fn fields(
     bytes: &[u8],
-    at: usize,
+    rows: &mut [u64],
+    from: Copied,
     shape: &[Field],
     height: usize,
-    rows: &mut [u64],
-    to: usize,
 ) -> Copied
-    requires inside { at ≤ length bytes.now }
+    requires inside { from.end ≤ length bytes.now }
     requires flat { plain_fields (fields_of shape.now) ≡ true }
-    requires room { Room (row_fields (fields_of shape.now)) (read_fields (read_node height) (fields_of shape.now) (drop at bytes.now)) to (length rows.old) }
-    ensures reads { done rows.new result ≡ after (row_fields (fields_of shape.now)) rows.old to at (read_fields (read_node height) (fields_of shape.now) (drop at bytes.now)) }
-    ensures inside { Inside at (length bytes.now) to (length rows.old) result }
+    requires room { Room (row_fields (fields_of shape.now)) (read_fields (read_node height) (fields_of shape.now) (drop from.end bytes.now)) from.to (length rows.old) }
+    ensures reads { done rows.new result ≡ after (row_fields (fields_of shape.now)) rows.old from.to from.end (read_fields (read_node height) (fields_of shape.now) (drop from.end bytes.now)) }
+    ensures inside { Inside from.end (length bytes.now) from.to (length rows.old) result }
 {
-    let mut end = at;
-    let mut next = to;
+    let mut copied = from;
     for f in shape {
-        let part = field(bytes, end, *f, height, rows, next);
-        end = part.end;
-        next = part.to;
+        copied = field(bytes, rows, copied, *f, height);
     }
-    Copied { end, to: next }
+    copied
 }
 
 #[cycle(field_fields_list_node)]
-fn field(
-    bytes: &[u8],
-    at: usize,
-    shape: Field,
-    height: usize,
-    rows: &mut [u64],
-    to: usize,
-) -> Copied
-    requires inside { at ≤ length bytes.now }
+fn field(bytes: &[u8], rows: &mut [u64], from: Copied, shape: Field, height: usize) -> Copied
+    requires inside { from.end ≤ length bytes.now }
     requires flat { plain_field (field_of shape) ≡ true }
-    requires room { Room (row_field (field_of shape)) (read_field (read_node height) (field_of shape) (drop at bytes.now)) to (length rows.old) }
-    ensures reads { done rows.new result ≡ after (row_field (field_of shape)) rows.old to at (read_field (read_node height) (field_of shape) (drop at bytes.now)) }
-    ensures inside { Inside at (length bytes.now) to (length rows.old) result }
+    requires room { Room (row_field (field_of shape)) (read_field (read_node height) (field_of shape) (drop from.end bytes.now)) from.to (length rows.old) }
+    ensures reads { done rows.new result ≡ after (row_field (field_of shape)) rows.old from.to from.end (read_field (read_node height) (field_of shape) (drop from.end bytes.now)) }
+    ensures inside { Inside from.end (length bytes.now) from.to (length rows.old) result }
 {
     match shape {
-        Field::Part => Copied { end: at, to },
-        Field::Small(_) => byte(bytes, at, rows, to),
-        Field::Word => word(bytes, at, rows, to),
-        Field::Text => text(bytes, at, rows, to),
-        Field::Pattern => pattern(bytes, at, rows, to),
-        Field::Node(kind) => node(bytes, at, kind, height, rows, to),
-        Field::List(items) => list(bytes, at, item_fields(items), height, rows, to),
+        Field::Part => from,
+        Field::Small(_) => byte(bytes, rows, from),
+        Field::Word => word(bytes, rows, from),
+        Field::Text => text(bytes, rows, from),
+        Field::Pattern => pattern(bytes, rows, from),
+        Field::Node(kind) => node(bytes, rows, from, kind, height),
+        Field::List(items) => list(bytes, rows, from, item_fields(items), height),
     }
 }
 
-// How many elements there are stands before them, and is known behind them.
+// How many elements there are stands before them, and is known behind them: so the loop counts them by hand.
 #[cycle(field_fields_list_node)]
-pub(crate) fn list(
-    bytes: &[u8],
-    at: usize,
-    shape: &[Field],
-    height: usize,
-    rows: &mut [u64],
-    to: usize,
-) -> Copied
-    requires inside { at ≤ length bytes.now }
+fn list(bytes: &[u8], rows: &mut [u64], from: Copied, shape: &[Field], height: usize) -> Copied
+    requires inside { from.end ≤ length bytes.now }
     requires flat { plain_fields (fields_of shape.now) ≡ true }
-    requires room { Room (counted (row_fields (fields_of shape.now))) (read_list (read_fields (read_node height) (fields_of shape.now)) 0 (drop at bytes.now)) to (length rows.old) }
-    ensures reads { done rows.new result ≡ after (counted (row_fields (fields_of shape.now))) rows.old to at (read_list (read_fields (read_node height) (fields_of shape.now)) 0 (drop at bytes.now)) }
-    ensures inside { Inside at (length bytes.now) to (length rows.old) result }
+    requires room { Room (counted (row_fields (fields_of shape.now))) (read_list (read_fields (read_node height) (fields_of shape.now)) 0 (drop from.end bytes.now)) from.to (length rows.old) }
+    ensures reads { done rows.new result ≡ after (counted (row_fields (fields_of shape.now))) rows.old from.to from.end (read_list (read_fields (read_node height) (fields_of shape.now)) 0 (drop from.end bytes.now)) }
+    ensures inside { Inside from.end (length bytes.now) from.to (length rows.old) result }
 {
-    let mut end = at;
-    let mut next = to + 1;
+    let mut copied = Copied {
+        end: from.end,
+        to: from.to + 1,
+    };
     let mut count = 0;
-    while bytes[end] == 1 {
-        let item = fields(bytes, end + 1, shape, height, rows, next);
-        end = item.end;
-        next = item.to;
+    while bytes[copied.end] == 1 {
+        let item = Copied {
+            end: copied.end + 1,
+            ..copied
+        };
+        copied = fields(bytes, rows, item, shape, height);
         count += 1;
     }
-    rows[to] = count;
+    rows[from.to] = count;
     Copied {
-        end: end + 1,
-        to: next,
+        end: copied.end + 1,
+        ..copied
     }
 }
 
@@ -97,32 +84,34 @@ pub(crate) fn list(
 #[cycle(field_fields_list_node)]
 pub(crate) fn node(
     bytes: &[u8],
-    at: usize,
+    rows: &mut [u64],
+    from: Copied,
     kind: Kind,
     height: usize,
-    rows: &mut [u64],
-    to: usize,
 ) -> Copied
-    requires inside { at ≤ length bytes.now }
+    requires inside { from.end ≤ length bytes.now }
     requires flat { plain (kind_of kind) ≡ true }
-    requires room { Room (row_tree (kind_of kind)) (read_node height (kind_of kind) (drop at bytes.now)) to (length rows.old) }
-    ensures reads { done rows.new result ≡ after (row_tree (kind_of kind)) rows.old to at (read_node height (kind_of kind) (drop at bytes.now)) }
-    ensures inside { Inside at (length bytes.now) to (length rows.old) result }
+    requires room { Room (row_tree (kind_of kind)) (read_node height (kind_of kind) (drop from.end bytes.now)) from.to (length rows.old) }
+    ensures reads { done rows.new result ≡ after (row_tree (kind_of kind)) rows.old from.to from.end (read_node height (kind_of kind) (drop from.end bytes.now)) }
+    ensures inside { Inside from.end (length bytes.now) from.to (length rows.old) result }
 {
     let table = match forms_of(kind) {
-        Forms::Only(shape) => return fields(bytes, at, shape, height - 1, rows, to),
+        Forms::Only(shape) => return fields(bytes, rows, from, shape, height - 1),
         Forms::ByTag(table) => table,
     };
-    let tag = bytes[at];
+    let tag = bytes[from.end];
+    let inner = Copied {
+        end: from.end + 1,
+        to: from.to + 2,
+    };
     let body = fields(
         bytes,
-        at + 1,
-        table[tag as usize].fields,
-        height - 1,
         rows,
-        to + 2,
+        inner,
+        table[usize::from(tag)].fields,
+        height - 1,
     );
-    rows[to + 1] = (body.to - to) as u64;
-    rows[to] = tag as u64;
+    rows[from.to + 1] = (body.to - from.to) as u64;
+    rows[from.to] = u64::from(tag);
     body
 }

@@ -4,6 +4,7 @@ use Rattle.spec.specs.Validate.{well_formed}
 use Rattle.spec.specs.Calls.{Call, set_schema, put_policy, remove_policy, put_entity, remove_entity, validate_policies, authorize, malformed, not_a_call, inadmissible, refusal, Answer, refused}
 use Rattle.spec.specs.Bytes.{encode_answer}
 use Rattle.answers.specs.Put.{Put}
+use Rattle.reader.specs.declared.grammar.CallKind.TheVariants.{SetSchema}
 use Rattle.reader.specs.declared.scan.Scanned.{Scanned}
 use Rattle.reader.specs.Found.{scanned}
 use Rattle.schema_order.specs.Places.{is_schema, schema_of}
@@ -30,19 +31,19 @@ read-as-call validate_policies s h k = refl
 read-as-call (authorize q) s h k = refl
 read-as-call (malformed j) s h k = not-ok h
 
-tag_is : {s t : Scanned} → ◌≡◌ {A = Result Scanned ℕ} (Ok s) (Ok t) → s.tag ≡ t.tag
-tag_is {s} {t} h = cc
+call_is : {s t : Scanned} → ◌≡◌ {A = Result Scanned ℕ} (Ok s) (Ok t) → s.call ≡ t.call
+call_is {s} {t} h = cc
 
--- only a call that sets a schema has the number 0
-pub zero-is-schema : (c : Call) (s : Scanned) → Ok s ≡ scanned c → s.tag ≡ 0 → is_schema c ≡ true
-zero-is-schema (set_schema d) s h z = refl
-zero-is-schema (put_policy p) s h z = let e = tag_is h in absurd (omega arith)
-zero-is-schema (remove_policy t) s h z = let e = tag_is h in absurd (omega arith)
-zero-is-schema (put_entity d) s h z = let e = tag_is h in absurd (omega arith)
-zero-is-schema (remove_entity u) s h z = let e = tag_is h in absurd (omega arith)
-zero-is-schema validate_policies s h z = let e = tag_is h in absurd (omega arith)
-zero-is-schema (authorize q) s h z = let e = tag_is h in absurd (omega arith)
-zero-is-schema (malformed k) s h z = not-ok h
+-- only a call that sets a schema is scanned as one
+pub set-is-schema : (c : Call) (s : Scanned) → Ok s ≡ scanned c → s.call ≡ SetSchema → is_schema c ≡ true
+set-is-schema (set_schema d) s h z = refl
+set-is-schema (put_policy p) s h z = let e = call_is h in cc
+set-is-schema (remove_policy t) s h z = let e = call_is h in cc
+set-is-schema (put_entity d) s h z = let e = call_is h in cc
+set-is-schema (remove_entity u) s h z = let e = call_is h in cc
+set-is-schema validate_policies s h z = let e = call_is h in cc
+set-is-schema (authorize q) s h z = let e = call_is h in cc
+set-is-schema (malformed k) s h z = not-ok h
 
 pub well-formed : (c : Call) → is_schema c ≡ true → well_formed (schema_of c) ≡ true → ill_formed c ≡ false
 well-formed (set_schema d) h k = rw k
@@ -54,9 +55,9 @@ well-formed validate_policies h k = refl
 well-formed (authorize q) h k = refl
 well-formed (malformed j) h k = refl
 
--- a call with another number
-pub no-schema : (c : Call) (s : Scanned) → Ok s ≡ scanned c → (s.tag ≡ 0 → ⊥) → ill_formed c ≡ false
-no-schema (set_schema d) s h z = absurd (z (tag_is h))
+-- a call of another kind
+pub no-schema : (c : Call) (s : Scanned) → Ok s ≡ scanned c → (s.call ≡ SetSchema → ⊥) → ill_formed c ≡ false
+no-schema (set_schema d) s h z = absurd (z (call_is h))
 no-schema (put_policy p) s h z = refl
 no-schema (remove_policy t) s h z = refl
 no-schema (put_entity d) s h z = refl

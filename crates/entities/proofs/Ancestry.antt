@@ -1,6 +1,5 @@
 -- Whether an entity is in another, or in one of a set: what is left to look at says what all of it says.
 use Rattle.std.proofs.Common.{◌≡◌, ℕ, zero, suc, ◌+◌, ◌-◌, ◌<◌, ◌≤◌, Bool, true, false, ◌||◌, List, [], ◌∷◌, ◌++◌, Some, None, Option, sym, refl, ap, ◌∙◌, subst, ap₂, arith}
-use mathlib.Core.Option as o
 use Rattle.spec.specs.Basics.{Except, ok, error, ◌>>=◌, any}
 use Rattle.spec.specs.Values as s
 use Rattle.spec.specs.Values.{EntityUID, elements, set, same_uid, find_entity, ancestors_or_empty}
@@ -11,7 +10,7 @@ use Rattle.values.specs.declared.nodes.Value.TheVariants.{Bool as B, Int, String
 use Rattle.values.proofs.Frame.{set-in, set_is}
 use Rattle.values.proofs.Runs.{run_more, run_none, run-all}
 use Rattle.operators.proofs.Operands.{is-entity, no-entity}
-use Rattle.entities.specs.Rows.{behind_uid, uids_at, UIDsIn, ancestors_at, FoundRow}
+use Rattle.entities.specs.Rows.{behind_uid, uids_at, UIDsIn, FoundRow}
 use Rattle.entities.specs.Code.{RowIn, in_row, in_values}
 use Rattle.entities.proofs.Framed.{ancestors-on, entity-in-on}
 

@@ -3,9 +3,9 @@ use Rattle.std.proofs.Common.{◌≡◌, ℕ, true, List, [], ◌∷◌, ◌++�
 use Rattle.spec.specs.Basics.{less, ascending, all}
 use Rattle.spec.specs.Values as s
 use Rattle.spec.specs.Values.{EntityUID, int, prim, empty, attr, Entity, entity_key}
-use Rattle.spec.specs.Calls.{put_entity, authorize, admissible, encodable}
+use Rattle.spec.specs.Calls.{put_entity, authorize, admissible}
 use Rattle.entities.specs.Rows.{EntitiesIn, RequestRowIn}
-use Rattle.entities.specs.declared.lookup.Entities.{Entities}
+use Rattle.shelves.specs.declared.table.Table.{Table}
 use Rattle.entities.proofs.Meant.{entities-mean, request-means}
 
 abbrev user : ℕ → EntityUID
@@ -38,8 +38,8 @@ numbers =
 abbrev pub more : List ℕ
 more = 1 ∷ (85 ∷ (1 ∷ (97 ∷ (1 ∷ (85 ∷ (1 ∷ (118 ∷ (1 ∷ (85 ∷ (1 ∷ (98 ∷ (2 ∷ (0 ∷ [])))))))))))))
 
-abbrev pub table : Entities
-table = record { start = 0; table = 27; count = 2 }
+abbrev pub table : Table
+table = record { from = 0; places = 27; count = 2 }
 
 pub the-entities : EntitiesIn numbers table
 the-entities = (entities-mean two numbers table two-rise two-kept refl refl (omega arith) (refl, (refl, tt))).0

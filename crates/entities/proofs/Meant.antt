@@ -1,4 +1,5 @@
 -- Rows of entities and of a request mean what they were made from; and a request keeps its meaning.
+use Rattle.std.specs.declared.cmp.Ordering.TheVariants.{Less}
 use Rattle.std.proofs.Common.{◌≡◌, ℕ, zero, suc, ◌+◌, ◌*◌, ◌<◌, ◌≤◌, true, ◌&&◌, List, [], ◌∷◌, ◌++◌, length, get_or, take, drop, sym, refl, ap, ◌∙◌, subst, ap₂, inl, inr, arith}
 use Rattle.std.proofs.lemmas.Bool.{and_parts, cases_eq}
 use Rattle.std.proofs.lemmas.List.{length-append}
@@ -12,7 +13,6 @@ use Rattle.values.specs.Order.{order_uid}
 use Rattle.values.specs.Held.{behind_text, uid_at, UIDIn}
 use Rattle.values.specs.Making.{up_to, listed}
 use Rattle.values.specs.Stored.{LiesAt}
-use Rattle.values.specs.declared.ordering.Order.TheVariants.{Less}
 use Rattle.values.proofs.Frame.{uid-on, uid-in-on}
 use Rattle.values.proofs.Orders.{less-is}
 use Rattle.values.proofs.Rising.{its_less}
@@ -21,7 +21,7 @@ use Rattle.values.proofs.Means.{rows-mean}
 use Rattle.values.proofs.Placed.{Lies, lies, lies-move, lies-append, lies_at, uid-lies}
 use Rattle.entities.specs.Rows.{behind_uid, behind_node, record_at, RecordAt, uids_at, UIDsIn, attrs_place, tags_place, ancestors_place, ancestors_at, entity_at, EntityIn, row_place, entities_at, FoundRow, SubjectIn, request_at, RequestIn, action_place, resource_place, context_place}
 use Rattle.entities.specs.Meaning.{RowsLie, EntitiesMean, RequestMeans, RequestGrows}
-use Rattle.entities.specs.declared.lookup.Entities.{Entities}
+use Rattle.shelves.specs.declared.table.Table.{Table}
 use Rattle.entities.specs.declared.requests.Subject.{Subject}
 use Rattle.entities.specs.declared.requests.Request.{Request}
 use Rattle.entities.proofs.Framed.{fields_told, record-on, record-in-on}
@@ -95,11 +95,11 @@ entity-means m p x a w h =
     }
 
 -- ---- all entities, from the k-th on
-record Listed (m : List ℕ) (e : Entities) (k : ℕ) (xs : s.Entities) : Type 0 where
+record Listed (m : List ℕ) (e : Table) (k : ℕ) (xs : s.Entities) : Type 0 where
   good : (j : ℕ) → k ≤ j → j < k + length xs → EntityIn m (row_place m e j)
   are : listed (λ j. entity_at m (row_place m e j)) k (length xs) ≡ xs
 
-all-mean : (xs : s.Entities) (m : List ℕ) (e : Entities) (k : ℕ) → all (λ x. admissible (put_entity x)) xs ≡ true → all (λ x. encodable (put_entity x)) xs ≡ true → RowsLie m e k xs → Listed m e k xs
+all-mean : (xs : s.Entities) (m : List ℕ) (e : Table) (k : ℕ) → all (λ x. admissible (put_entity x)) xs ≡ true → all (λ x. encodable (put_entity x)) xs ≡ true → RowsLie m e k xs → Listed m e k xs
 all-mean [] m e k a w h = record { good = λ j l l'. absurd (omega arith); are = refl }
 all-mean (x ∷ xs) m e k a w h =
     let a₁ = and_parts (admissible (put_entity x)) (all (λ x. admissible (put_entity x)) xs) a in
@@ -163,7 +163,7 @@ request-means q m p a w h =
       (λ i. record { principal = e₁ i; action = e₂ i; resource = e₃ i; context = e₄ i }),
     )
 
-module _ (store m x : List ℕ) (e : Entities) where
+module _ (store m x : List ℕ) (e : Table) where
   subject-on : (j : Subject) → SubjectIn store m e j → SubjectIn store (m ++ x) e j
   subject-on j h = record {
     name = uid-in-on m x j.uid h.name;

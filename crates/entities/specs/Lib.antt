@@ -2,3 +2,5 @@
 pub mod Rows
 pub mod Code
 pub mod Meaning
+pub mod Props
+pub mod View

@@ -8,19 +8,19 @@ use Rattle.rows.specs.Rows.{row_entity, row_request}
 use Rattle.values.specs.Making.{up_to}
 use Rattle.values.specs.Stored.{LiesAt}
 use Rattle.entities.specs.Rows.{row_place, entities_at, EntitiesIn, request_at, RequestIn, request_row_at, RequestRowIn}
-use Rattle.entities.specs.declared.lookup.Entities.{Entities}
+use Rattle.shelves.specs.declared.table.Table.{Table}
 use Rattle.entities.specs.declared.requests.Request.{Request}
 
 -- the rows of entities lie where the table has them, from the k-th on
-abbrev pub RowsLie : List ℕ → Entities → ℕ → s.Entities → Type 0
+abbrev pub RowsLie : List ℕ → Table → ℕ → s.Entities → Type 0
 RowsLie m e k [] = Unit {0}
 RowsLie m e k (x ∷ xs) = LiesAt m (row_place m e k) (row_entity x) × RowsLie m e (k + 1) xs
 
 -- entities as a store keeps them, each as a call can carry it
 abbrev pub EntitiesMean : Type 0
 EntitiesMean =
-    (es : s.Entities) (m : List ℕ) (e : Entities) → ascending entity_key es ≡ true → all (λ x. admissible (put_entity x)) es ≡ true → all (λ x. encodable (put_entity x)) es ≡ true →
-    e.count ≡ length es → e.table + e.count ≤ length m → RowsLie m e 0 es → EntitiesIn m e × (entities_at m e ≡ es)
+    (es : s.Entities) (m : List ℕ) (e : Table) → ascending entity_key es ≡ true → all (λ x. admissible (put_entity x)) es ≡ true → all (λ x. encodable (put_entity x)) es ≡ true →
+    e.count ≡ length es → e.places + e.count ≤ length m → RowsLie m e 0 es → EntitiesIn m e × (entities_at m e ≡ es)
 
 abbrev pub RequestMeans : Type 0
 RequestMeans =
@@ -29,5 +29,5 @@ RequestMeans =
 -- as the work memory grows, a request means what it meant
 abbrev pub RequestGrows : Type 0
 RequestGrows =
-    (store w₁ w₂ : List ℕ) (t₁ t₂ : ℕ) (e : Entities) (q : Request) → t₁ ≤ t₂ → take t₁ w₂ ≡ take t₁ w₁ → RequestIn store (up_to store w₁ t₁) e q →
+    (store w₁ w₂ : List ℕ) (t₁ t₂ : ℕ) (e : Table) (q : Request) → t₁ ≤ t₂ → take t₁ w₂ ≡ take t₁ w₁ → RequestIn store (up_to store w₁ t₁) e q →
     RequestIn store (up_to store w₂ t₂) e q × (request_at (up_to store w₂ t₂) q ≡ request_at (up_to store w₁ t₁) q)

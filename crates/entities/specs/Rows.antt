@@ -1,16 +1,16 @@
 -- What the entities and a request stand for, as they lie in memory.
 -- An entity's row is its name, the nodes of its attributes and of its tags, and the number of its ancestors with their names behind it.
 -- A request's row is the names of principal, action and resource, and the node of its context.
-use Rattle.std.specs.Prelude.{◌≡◌, ℕ, zero, suc, ◌+◌, ◌<◌, ◌≤◌, List, [], ◌∷◌, length, Some, None, Option, slice_index}
+use Rattle.std.specs.declared.cmp.Ordering.TheVariants.{Less}
+use Rattle.std.specs.Prelude.{◌≡◌, ℕ, Bool, zero, suc, ◌+◌, ◌<◌, ◌≤◌, List, [], ◌∷◌, length, Some, None, Option, slice_index}
 use Rattle.std.proofs.Math.Option as o
 use Rattle.spec.specs.Values as s
 use Rattle.spec.specs.Values.{EntityUID, Attrs, Entity, find_entity}
 use Rattle.values.specs.Order.{order_uid}
 use Rattle.values.specs.Held.{behind_text, uid_at, UIDIn, attrs_at, decode, Good}
 use Rattle.values.specs.Making.{listed}
-use Rattle.values.specs.declared.ordering.Order.TheVariants.{Less}
 use Rattle.values.specs.declared.nodes.Value.TheVariants.{Record}
-use Rattle.entities.specs.declared.lookup.Entities.{Entities}
+use Rattle.shelves.specs.declared.table.Table.{Table}
 use Rattle.entities.specs.declared.requests.Subject.{Subject}
 use Rattle.entities.specs.declared.requests.Request.{Request}
 
@@ -38,6 +38,10 @@ abbrev pub UIDsIn : List ℕ → ℕ → ℕ → Type 0
 UIDsIn m p zero = Unit {0}
 UIDsIn m p (suc n) = UIDIn m p × UIDsIn m (behind_uid m p) n
 
+-- what the code tests at the places of names that lie there is this test
+abbrev pub TestsBy : List ℕ → (ℕ → Bool → Type 0) → (EntityUID → Bool) → Type 0
+TestsBy m gives f = (p : ℕ) (b : Bool) → UIDIn m p → gives p b → b ≡ f (uid_at m p)
+
 -- ---- an entity whose row lies at a place
 abbrev pub attrs_place : List ℕ → ℕ → ℕ
 attrs_place m p = behind_uid m p
@@ -62,14 +66,14 @@ pub record EntityIn (m : List ℕ) (p : ℕ) : Type 0 where
   pub ancestors : UIDsIn m (ancestors_place m p + 1) (slice_index m (ancestors_place m p))
 
 -- ---- all entities: m is the store's memory alone
-abbrev pub row_place : List ℕ → Entities → ℕ → ℕ
-row_place m e k = e.start + slice_index m (e.table + k)
+abbrev pub row_place : List ℕ → Table → ℕ → ℕ
+row_place m e k = e.from + slice_index m (e.places + k)
 
-abbrev pub entities_at : List ℕ → Entities → s.Entities
+abbrev pub entities_at : List ℕ → Table → s.Entities
 entities_at m e = listed (λ k. entity_at m (row_place m e k)) 0 e.count
 
-pub record EntitiesIn (m : List ℕ) (e : Entities) : Type 0 where
-  pub fits : e.table + e.count ≤ length m
+pub record EntitiesIn (m : List ℕ) (e : Table) : Type 0 where
+  pub fits : e.places + e.count ≤ length m
   pub each : (k : ℕ) → k < e.count → EntityIn m (row_place m e k)
   pub rising : (i j : ℕ) → i < j → j < e.count → order_uid (uid_at m (row_place m e i)) (uid_at m (row_place m e j)) ≡ Less
 
@@ -79,7 +83,7 @@ FoundRow m (Some p) x = (x ≡ o.some (entity_at m p)) × EntityIn m p
 FoundRow m None x = x ≡ o.none
 
 -- ---- a request: its names and its context lie in a memory m, which begins with the store; its entities in the store
-pub record SubjectIn (store m : List ℕ) (e : Entities) (x : Subject) : Type 0 where
+pub record SubjectIn (store m : List ℕ) (e : Table) (x : Subject) : Type 0 where
   pub name : UIDIn m x.uid
   pub found : FoundRow store x.row (find_entity (uid_at m x.uid) (entities_at store e))
 
@@ -91,7 +95,7 @@ request_at m q = record {
   context = record_at m q.context;
 }
 
-pub record RequestIn (store m : List ℕ) (e : Entities) (q : Request) : Type 0 where
+pub record RequestIn (store m : List ℕ) (e : Table) (q : Request) : Type 0 where
   pub principal : SubjectIn store m e q.principal
   pub action : SubjectIn store m e q.action
   pub resource : SubjectIn store m e q.resource

@@ -2,6 +2,7 @@
 #![tactic(auto)]
 
 pub mod attributes;
+pub mod env;
 pub mod lookup;
 pub mod membership;
 pub mod places;
@@ -12,26 +13,20 @@ mod tests;
 
 ghost use Rattle.entities.specs.Meaning.{EntitiesMean, RequestMeans, RequestGrows};
 
-pub use lookup::Entities;
+pub use env::{Env, EnvView};
 pub use requests::{Request, Subject};
 
 // Rows of entities that lie where the table says, of entities in order, are good and are these entities.
-pub fn entities_mean() -> u8
+pub fn entities_mean()
     ensures { EntitiesMean }
-{
-    0
-}
+{}
 
 // The row of a request that lies anywhere in a memory is good there, and is that request.
-pub fn request_means() -> u8
+pub fn request_means()
     ensures { RequestMeans }
-{
-    0
-}
+{}
 
 // As the work memory grows, a request keeps its meaning.
-pub fn request_grows() -> u8
+pub fn request_grows()
     ensures { RequestGrows }
-{
-    0
-}
+{}

@@ -52,6 +52,9 @@ pub record SetSoFar (store : List ℕ) (h first n : ℕ) (q : s.Request) (es : s
   pub good : (j : ℕ) → j < k → Good (h + 65) (up_to store w t) (waiting w limit j)
   pub left : evaluate_all (exprs_from (expr_at h store) store first n) q es ≡ (evaluate_all (exprs_from (expr_at h store) store at (n - k)) q es >>= (λ vs. ok (waiting_values (h + 65) (up_to store w t) w limit k ++ vs)))
 
+pub set-next : {store : List ℕ} {h first n : ℕ} {q : s.Request} {es : s.Entities} {w₀ : List ℕ} {t₀ limit : ℕ} {w : List ℕ} {t at k : ℕ} → SetSoFar store h first n q es w₀ t₀ limit w t at k → k < n → NextRow h store at n k q es
+set-next {store} {h} {first} {n} {q} {es} {w₀} {t₀} {limit} {w} {t} {at} {k} I l = next_row h store at n k q es l I.rows
+
 module _ (store : List ℕ) (h first n : ℕ) (q : s.Request) (es : s.Entities) (w₀ : List ℕ) (t₀ limit : ℕ) where
   pub set-begins : RowsFrom (GoodExpr h store) store first n → SetSoFar store h first n q es w₀ t₀ limit w₀ t₀ first 0
   set-begins r =

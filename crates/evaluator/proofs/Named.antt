@@ -58,6 +58,9 @@ pub record RecordSoFar (store : List ℕ) (h first n : ℕ) (q : s.Request) (es 
   pub good : (j : ℕ) → j < k → Good (h + 65) (up_to store w t) (waiting_attr w limit j)
   pub left : evaluate_attrs (attrs_from (expr_at h store) store first n) q es ≡ (evaluate_attrs (attrs_from (expr_at h store) store at (n - k)) q es >>= (λ fs. ok (waiting_attrs (h + 65) (up_to store w t) w limit k ++ fs)))
 
+pub record-next : {store : List ℕ} {h first n : ℕ} {q : s.Request} {es : s.Entities} {w₀ : List ℕ} {t₀ limit : ℕ} {w : List ℕ} {t at k : ℕ} → RecordSoFar store h first n q es w₀ t₀ limit w t at k → k < n → NextAttr h store at n k q es
+record-next {store} {h} {first} {n} {q} {es} {w₀} {t₀} {limit} {w} {t} {at} {k} I l = next-attr h store at n k q es l I.rows
+
 module _ (store : List ℕ) (h first n : ℕ) (q : s.Request) (es : s.Entities) (w₀ : List ℕ) (t₀ limit : ℕ) where
   pub record-begins : AttrsFrom (GoodExpr h store) store first n → RecordSoFar store h first n q es w₀ t₀ limit w₀ t₀ first 0
   record-begins r =

@@ -24,11 +24,8 @@ use Rattle.exprs.specs.declared.Var.{Var}
 use Rattle.exprs.specs.declared.Var.TheVariants.{Principal, Action, Resource, Context}
 use Rattle.exprs.proofs.Inside.{inside}
 use Rattle.entities.specs.Rows.{request_at, RequestIn}
-use Rattle.entities.proofs.Meant.{request-grows}
-use Rattle.entities.specs.declared.lookup.Entities.{Entities}
-use Rattle.entities.specs.declared.requests.Request.{Request}
 use Rattle.evaluator.specs.Evaluated.{Moved, UnaryIn, unary_expr, applied, AnswersOf1, var_value}
-use Rattle.evaluator.specs.declared.apply.Env.{Env}
+use Rattle.entities.specs.declared.env.Env.{Env}
 use Rattle.evaluator.specs.declared.apply.Unary.{Unary}
 use Rattle.evaluator.specs.declared.apply.Unary.TheVariants.{Not, Neg, IsEmpty, Like, Is, GetAttr, HasAttr}
 
@@ -134,11 +131,6 @@ pub var-says : (h : ℕ) (store m : List ℕ) (d : ℕ → x.Expr) (env : Env) (
 var-says h store m d env e v r es p q a =
     by-outcome (suc (h + 65)) m (Ok r) (evaluate (means_expr d store e) (request_at m env.request) es) (evaluate (var (var_of v)) (request_at m env.request) es) (ap (λ k. evaluate (means_expr d store k) (request_at m env.request) es) p)
     (subst (λ k. Says (suc (h + 65)) m (Ok k) (evaluate (var (var_of v)) (request_at m env.request) es)) (sym q) (word-says h store m env v es a))
-
--- ---- the request, later
-pub asked-later : (store w w₁ : List ℕ) (t t₁ a : ℕ) (e : Entities) (q : Request) → RequestIn store (up_to store w t) e q → Moved w w₁ t t₁ a →
-    RequestIn store (up_to store w₁ t₁) e q × (request_at (up_to store w₁ t₁) q ≡ request_at (up_to store w t) q)
-asked-later store w w₁ t t₁ a e q h M = request-grows store w w₁ t t₁ e q M.rises M.keeps h
 
 -- ---- and, or, if
 abbrev and-rest : x.Expr → s.Request → s.Entities → Bool → Except Error s.Value

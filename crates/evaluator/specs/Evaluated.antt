@@ -11,7 +11,7 @@ use Rattle.operators.specs.Code.{Says}
 use Rattle.operators.specs.declared.errors.EvalError.{EvalError}
 use Rattle.exprs.specs.declared.Var.{Var}
 use Rattle.exprs.specs.declared.Var.TheVariants.{Principal, Action, Resource, Context}
-use Rattle.evaluator.specs.declared.apply.Env.{Env}
+use Rattle.entities.specs.declared.env.Env.{Env}
 use Rattle.evaluator.specs.declared.apply.Unary.{Unary}
 use Rattle.evaluator.specs.declared.apply.Unary.TheVariants.{Not, Neg, IsEmpty, Like, Is, GetAttr, HasAttr}
 

@@ -3,31 +3,22 @@ ghost use Rattle.std.specs.Prelude.{◌≡◌, ℕ, ◌^◌, ◌<◌, ◌≤◌,
 ghost use Rattle.spec.specs.Basics.{Except};
 ghost use Rattle.spec.specs.Values as s;
 ghost use Rattle.spec.specs.Evaluate.{Error, just_bool};
+ghost use Rattle.values.specs.Memory.{numbers};
 ghost use Rattle.values.specs.Held.{Good};
 ghost use Rattle.operators.specs.Code.{Says};
-ghost use Rattle.entities.specs.Rows.{entities_at, EntitiesIn, RequestIn};
+ghost use Rattle.entities.specs.View.{known};
 ghost use Rattle.entities.specs.Code.{AnswersOf2};
 ghost use Rattle.exprs.specs.Stored.{op_of};
 ghost use Rattle.evaluator.specs.Evaluated.{UnaryIn, AnswersOf1};
 
-use entities::attributes::{get_attr, has_attr};
-use entities::membership::mem;
-use entities::tags::{get_tag, has_tag};
-use entities::{Entities, Request};
+use entities::EnvView;
 use exprs::BinaryOp;
 use operators::like::like;
 use operators::{EvalError, arithmetic, logic, sets};
 use values::Value;
 
-// What expressions are evaluated against.
-#[derive(Clone, Copy)]
-pub struct Env {
-    pub entities: Entities,
-    pub request: Request,
-}
-
-// What is done to one value; the numbers are places of texts.
-#[derive(Clone, Copy)]
+// What is done to one value; the numbers are places of texts. An enum and no closure: what each answers is stated of it by name (`unary_expr`).
+#[derive(Clone, Copy, Debug, PartialEq, Eq)]
 pub enum Unary {
     Not,
     Neg,
@@ -38,63 +29,48 @@ pub enum Unary {
     HasAttr(usize),
 }
 
-pub fn apply_unary(
-    store: &[u64],
-    work: &[u64],
-    env: Env,
-    op: Unary,
-    v: Value,
-    height: u64,
-) -> Result<Value, EvalError>
-    requires small { length (store.now ++ work.now) < 2 ^ 64 }
+pub fn apply_unary(view: &EnvView<'_>, op: Unary, v: Value, height: u64) -> Result<Value, EvalError>
     requires tall { 65 ≤ height }
-    requires all { EntitiesIn store.now env.entities }
-    requires asked { RequestIn store.now (store.now ++ work.now) env.entities env.request }
-    requires texts { UnaryIn (store.now ++ work.now) op }
-    requires good { Good height (store.now ++ work.now) v }
-    ensures { AnswersOf1 height (store.now ++ work.now) (entities_at store.now env.entities) op v result }
+    requires texts { UnaryIn (numbers view.now.memory) op }
+    requires good { Good height (numbers view.now.memory) v }
+    ensures { AnswersOf1 height (numbers view.now.memory) (known view.now) op v result }
 {
     match op {
         Unary::Not => logic::not(v),
         Unary::Neg => arithmetic::neg(v),
-        Unary::IsEmpty => sets::is_empty(store, work, v, height),
-        Unary::Like(p) => like(store, work, v, p, height),
-        Unary::Is(p) => logic::is(store, work, v, p, height),
-        Unary::GetAttr(p) => get_attr(store, work, env.entities, env.request, v, p, height),
-        Unary::HasAttr(p) => has_attr(store, work, env.entities, env.request, v, p, height),
+        Unary::IsEmpty => sets::is_empty(&view.memory, v, height),
+        Unary::Like(p) => like(&view.memory, v, p, height),
+        Unary::Is(p) => logic::is(&view.memory, v, p, height),
+        Unary::GetAttr(p) => view.get_attr(v, p, height),
+        Unary::HasAttr(p) => view.has_attr(v, p, height),
     }
 }
 
 pub fn apply_binary(
-    store: &[u64],
-    work: &[u64],
-    env: Env,
+    view: &EnvView<'_>,
     op: BinaryOp,
     v: Value,
     w: Value,
     height: u64,
 ) -> Result<Value, EvalError>
-    requires small { length (store.now ++ work.now) < 2 ^ 64 }
     requires tall { 65 ≤ height }
-    requires all { EntitiesIn store.now env.entities }
-    requires asked { RequestIn store.now (store.now ++ work.now) env.entities env.request }
-    requires left { Good height (store.now ++ work.now) v }
-    requires right { Good height (store.now ++ work.now) w }
-    ensures { AnswersOf2 height (store.now ++ work.now) (entities_at store.now env.entities) (op_of op) v w result }
+    requires left { Good height (numbers view.now.memory) v }
+    requires right { Good height (numbers view.now.memory) w }
+    ensures { AnswersOf2 height (numbers view.now.memory) (known view.now) (op_of op) v w result }
 {
     match op {
-        BinaryOp::Eq => logic::eq(store, work, v, w, height),
-        BinaryOp::Mem => mem(store, work, env.entities, env.request, v, w, height),
-        BinaryOp::HasTag => has_tag(store, work, env.entities, env.request, v, w, height),
-        BinaryOp::GetTag => get_tag(store, work, env.entities, env.request, v, w, height),
+        BinaryOp::Eq => logic::eq(&view.memory, v, w, height),
+        BinaryOp::Mem => view.mem(v, w, height),
+        BinaryOp::HasTag => view.has_tag(v, w, height),
+        BinaryOp::GetTag => view.get_tag(v, w, height),
         BinaryOp::Less => arithmetic::less(v, w),
         BinaryOp::LessEq => arithmetic::less_eq(v, w),
         BinaryOp::Add => arithmetic::add(v, w),
         BinaryOp::Sub => arithmetic::sub(v, w),
         BinaryOp::Mul => arithmetic::mul(v, w),
-        BinaryOp::Contains => sets::contains(store, work, v, w, height),
-        BinaryOp::ContainsAll => sets::contains_all(store, work, v, w, height),
-        BinaryOp::ContainsAny => sets::contains_any(store, work, v, w, height),
+        BinaryOp::Contains => sets::contains(&view.memory, v, w, height),
+        BinaryOp::ContainsAll => sets::contains_all(&view.memory, v, w, height),
+        BinaryOp::ContainsAny => sets::contains_any(&view.memory, v, w, height),
     }
 }
 
@@ -102,11 +78,7 @@ pub fn apply_binary(
 pub fn just_bool(r: Result<Value, EvalError>) -> Result<Value, EvalError>
     ensures { (h : ℕ) (m : List ℕ) (o : Except Error s.Value) → Says h m r o → Says h m result (just_bool o) }
 {
-    let v = match r {
-        Ok(v) => v,
-        Err(e) => return Err(e),
-    };
-    let Value::Bool(b) = v else {
+    let Value::Bool(b) = r? else {
         return Err(EvalError::TypeError);
     };
     Ok(Value::Bool(b))

@@ -1,7 +1,7 @@
-// The evaluator: expressions whose rows lie in the store, to a height that falls. Values that are made lie in the work memory, from `top` on, and what
+// The evaluator: expressions whose rows lie in the store, to a height that falls. Values that are made lie in the work memory, from its top on, and what
 // expressions come to is told by place.
-ghost use Rattle.std.specs.Prelude.{◌≡◌, ℕ, suc, ◌+◌, ◌*◌, ◌^◌, ◌<◌, ◌≤◌, length, slice_index};
-ghost use Rattle.spec.specs.Exprs.{ite, and, or, binary_app, set, record_of};
+ghost use Rattle.std.specs.Prelude.{◌≡◌, ℕ, suc, ◌+◌, ◌*◌, ◌^◌, ◌<◌, ◌≤◌, length, true, false, slice_index};
+ghost use Rattle.spec.specs.Exprs.{ite, binary_app, set, record_of};
 ghost use Rattle.spec.specs.Evaluate.{evaluate};
 ghost use Rattle.values.specs.Making.{up_to};
 ghost use Rattle.operators.specs.Code.{Says};
@@ -9,16 +9,20 @@ ghost use Rattle.exprs.specs.Heads.{size};
 ghost use Rattle.exprs.specs.Stored.{op_of, exprs_from, attrs_from, means_expr, expr_at, sizes, attr_sizes, weight, Row, RowsFrom, AttrsFrom, SoundExpr, GoodExpr};
 ghost use Rattle.entities.specs.Rows.{entities_at, EntitiesIn, request_at, RequestIn};
 ghost use Rattle.evaluator.specs.Evaluated.{Moved, UnaryIn, unary_expr, var_value};
+ghost use Rattle.evaluator.specs.Running.{made, IsAsked, comes_to, Tells, GoodRow, size_of, expr_of, HasRoom, Moves, logic};
 
-use crate::apply::{Env, Unary, apply_binary, apply_unary, just_bool};
+use crate::apply::{Unary, apply_binary, apply_unary, just_bool};
+use crate::running::{Inputs, Work};
+use entities::Env;
 use exprs::{BinaryOp, Expr, Var, read};
 use operators::EvalError;
 use values::Value;
 use values::records::{lay_attr, make_record};
 use values::sets::{lay_element, make_set};
 
-// What the expression comes to whose row lies at place `at` of the store.
-#[cycle(eval_eval_and_eval_below_eval_binary_eval_form_eval_if_eval_or_eval_record_eval_set_eval_unary)]
+// What the expression comes to whose row lies at place `at` of the store. It takes what is lent as its callers have it, and promises what it promised, so it
+// has no `Inputs` and no `Work`.
+#[cycle(evaluation)]
 pub fn eval(
     store: &[u64],
     work: &mut [u64],
@@ -28,7 +32,6 @@ pub fn eval(
     height: u64,
 ) -> Result<Value, EvalError>
     requires low { height ≤ 65 }
-    requires small { length store.now + length work.old < 2 ^ 64 }
     requires good { Row (GoodExpr height store.now) store.now at }
     requires room { top.old + 4 * size store.now at ≤ length work.old }
     requires all { EntitiesIn store.now env.entities }
@@ -36,49 +39,68 @@ pub fn eval(
     ensures moves { Moved work.old work.new top.old top.new (size store.now at) }
     ensures says { Says (height + 65) (up_to store.now work.new top.new) result (evaluate (expr_at height store.now at) (request_at (up_to store.now work.old top.old) env.request) (entities_at store.now env.entities)) }
 {
-    if height == 0 {
-        return Err(EvalError::TypeError);
-    }
-    eval_form(store, work, top, env, read(store, at), height - 1)
+    let mut work = Work {
+        numbers: work,
+        top: *top,
+    };
+    let inputs = Inputs { store, env, height };
+    let result = eval_row(inputs, &mut work, at);
+    let Work {
+        numbers: _,
+        top: end,
+    } = work;
+    *top = end;
+    result
 }
 
-#[cycle(eval_eval_and_eval_below_eval_binary_eval_form_eval_if_eval_or_eval_record_eval_set_eval_unary)]
-fn eval_form(
-    store: &[u64],
-    work: &mut [u64],
-    top: &mut usize,
-    env: Env,
-    e: Expr,
-    height: u64,
-) -> Result<Value, EvalError>
-    requires low { height ≤ 65 }
-    requires small { length store.now + length work.old < 2 ^ 64 }
-    requires good { SoundExpr (GoodExpr height store.now) store.now e }
-    requires room { top.old + 4 * weight store.now e ≤ length work.old }
-    requires all { EntitiesIn store.now env.entities }
-    requires asked { RequestIn store.now (up_to store.now work.old top.old) env.entities env.request }
-    ensures moves { Moved work.old work.new top.old top.new (weight store.now e) }
-    ensures says { Says (suc (height + 65)) (up_to store.now work.new top.new) result (evaluate (means_expr (expr_at height store.now) store.now e) (request_at (up_to store.now work.old top.old) env.request) (entities_at store.now env.entities)) }
+#[cycle(evaluation)]
+fn eval_row(inputs: Inputs<'_>, work: &mut Work<'_>, at: usize) -> Result<Value, EvalError>
+    requires good { GoodRow inputs at }
+    requires room { HasRoom work.old (size_of inputs at) }
+    requires asked { IsAsked inputs work.old }
+    ensures same { work.new.numbers.ghost_name ≡ work.old.numbers.ghost_name }
+    ensures moves { Moves work.old work.new (size_of inputs.entry at) }
+    ensures says { Says (inputs.entry.height + 65) (made inputs.entry work.new) result (comes_to inputs.entry work.old (expr_of inputs.entry at)) }
+{
+    if inputs.height == 0 {
+        return Err(EvalError::TypeError);
+    }
+    let lower = Inputs {
+        store: inputs.store,
+        env: inputs.env,
+        height: inputs.height - 1,
+    };
+    eval_form(lower, work, read(inputs.store, at))
+}
+
+#[cycle(evaluation)]
+fn eval_form(inputs: Inputs<'_>, work: &mut Work<'_>, e: Expr) -> Result<Value, EvalError>
+    requires good { SoundExpr (GoodExpr inputs.height inputs.store.now) inputs.store.now e }
+    requires room { HasRoom work.old (weight inputs.store.now e) }
+    requires asked { IsAsked inputs work.old }
+    ensures same { work.new.numbers.ghost_name ≡ work.old.numbers.ghost_name }
+    ensures moves { Moves work.old work.new (weight inputs.entry.store.now e) }
+    ensures says { Tells inputs.entry work.old work.new result (means_expr (expr_at inputs.entry.height inputs.entry.store.now) inputs.entry.store.now e) }
 {
     match e {
         Expr::Bool(b) => Ok(Value::Bool(b)),
         Expr::Int(i) => Ok(Value::Int(i)),
         Expr::String(p) => Ok(Value::String(p)),
         Expr::Entity(p) => Ok(Value::Entity(p)),
-        Expr::Var(v) => Ok(value_of(env, v)),
-        Expr::If(x, y, z) => eval_if(store, work, top, env, x, y, z, height),
-        Expr::And(x, y) => eval_and(store, work, top, env, x, y, height),
-        Expr::Or(x, y) => eval_or(store, work, top, env, x, y, height),
-        Expr::Not(x) => eval_unary(store, work, top, env, Unary::Not, x, height),
-        Expr::Neg(x) => eval_unary(store, work, top, env, Unary::Neg, x, height),
-        Expr::IsEmpty(x) => eval_unary(store, work, top, env, Unary::IsEmpty, x, height),
-        Expr::Like(p, x) => eval_unary(store, work, top, env, Unary::Like(p), x, height),
-        Expr::Is(p, x) => eval_unary(store, work, top, env, Unary::Is(p), x, height),
-        Expr::Binary(op, x, y) => eval_binary(store, work, top, env, op, x, y, height),
-        Expr::GetAttr(p, x) => eval_unary(store, work, top, env, Unary::GetAttr(p), x, height),
-        Expr::HasAttr(p, x) => eval_unary(store, work, top, env, Unary::HasAttr(p), x, height),
-        Expr::Set(n, first) => eval_set(store, work, top, env, n, first, height),
-        Expr::Record(n, first) => eval_record(store, work, top, env, n, first, height),
+        Expr::Var(v) => Ok(value_of(inputs.env, v)),
+        Expr::If(x, y, z) => eval_if(inputs, work, x, y, z),
+        Expr::And(x, y) => eval_logic(inputs, work, false, x, y),
+        Expr::Or(x, y) => eval_logic(inputs, work, true, x, y),
+        Expr::Not(x) => eval_unary(inputs, work, Unary::Not, x),
+        Expr::Neg(x) => eval_unary(inputs, work, Unary::Neg, x),
+        Expr::IsEmpty(x) => eval_unary(inputs, work, Unary::IsEmpty, x),
+        Expr::Like(p, x) => eval_unary(inputs, work, Unary::Like(p), x),
+        Expr::Is(p, x) => eval_unary(inputs, work, Unary::Is(p), x),
+        Expr::Binary(op, x, y) => eval_binary(inputs, work, op, x, y),
+        Expr::GetAttr(p, x) => eval_unary(inputs, work, Unary::GetAttr(p), x),
+        Expr::HasAttr(p, x) => eval_unary(inputs, work, Unary::HasAttr(p), x),
+        Expr::Set(n, first) => eval_set(inputs, work, n, first),
+        Expr::Record(n, first) => eval_record(inputs, work, n, first),
     }
 }
 
@@ -94,261 +116,194 @@ fn value_of(env: Env, v: Var) -> Value
     }
 }
 
-#[cycle(eval_eval_and_eval_below_eval_binary_eval_form_eval_if_eval_or_eval_record_eval_set_eval_unary)]
+#[cycle(evaluation)]
 fn eval_if(
-    store: &[u64],
-    work: &mut [u64],
-    top: &mut usize,
-    env: Env,
+    inputs: Inputs<'_>,
+    work: &mut Work<'_>,
     x: usize,
     y: usize,
     z: usize,
-    height: u64,
 ) -> Result<Value, EvalError>
-    requires low { height ≤ 65 }
-    requires small { length store.now + length work.old < 2 ^ 64 }
-    requires test { Row (GoodExpr height store.now) store.now x }
-    requires then { Row (GoodExpr height store.now) store.now y }
-    requires other { Row (GoodExpr height store.now) store.now z }
-    requires room { top.old + 4 * (2 + size store.now x + size store.now y + size store.now z) ≤ length work.old }
-    requires all { EntitiesIn store.now env.entities }
-    requires asked { RequestIn store.now (up_to store.now work.old top.old) env.entities env.request }
-    ensures moves { Moved work.old work.new top.old top.new (2 + size store.now x + size store.now y + size store.now z) }
-    ensures says { Says (suc (height + 65)) (up_to store.now work.new top.new) result (evaluate (ite (expr_at height store.now x) (expr_at height store.now y) (expr_at height store.now z)) (request_at (up_to store.now work.old top.old) env.request) (entities_at store.now env.entities)) }
+    requires test { GoodRow inputs x }
+    requires then { GoodRow inputs y }
+    requires other { GoodRow inputs z }
+    requires room { HasRoom work.old (2 + size_of inputs x + size_of inputs y + size_of inputs z) }
+    requires asked { IsAsked inputs work.old }
+    ensures same { work.new.numbers.ghost_name ≡ work.old.numbers.ghost_name }
+    ensures moves { Moves work.old work.new (2 + size_of inputs.entry x + size_of inputs.entry y + size_of inputs.entry z) }
+    ensures says { Tells inputs.entry work.old work.new result (ite (expr_of inputs.entry x) (expr_of inputs.entry y) (expr_of inputs.entry z)) }
 {
-    let v = match eval(store, work, top, env, x, height) {
-        Ok(v) => v,
-        Err(e) => return Err(e),
-    };
-    let Value::Bool(b) = v else {
+    let Value::Bool(b) = eval_row(inputs, work, x)? else {
         return Err(EvalError::TypeError);
     };
-    if b {
-        return eval(store, work, top, env, y, height);
-    }
-    eval(store, work, top, env, z, height)
+    eval_row(inputs, work, if b { y } else { z })
 }
 
-// The second side is not looked at if the first is false.
-#[cycle(eval_eval_and_eval_below_eval_binary_eval_form_eval_if_eval_or_eval_record_eval_set_eval_unary)]
-fn eval_and(
-    store: &[u64],
-    work: &mut [u64],
-    top: &mut usize,
-    env: Env,
+// `and` is decided by a first side that is false, `or` by one that is true: then the second is not looked at.
+#[cycle(evaluation)]
+fn eval_logic(
+    inputs: Inputs<'_>,
+    work: &mut Work<'_>,
+    decides: bool,
     x: usize,
     y: usize,
-    height: u64,
 ) -> Result<Value, EvalError>
-    requires low { height ≤ 65 }
-    requires small { length store.now + length work.old < 2 ^ 64 }
-    requires left { Row (GoodExpr height store.now) store.now x }
-    requires right { Row (GoodExpr height store.now) store.now y }
-    requires room { top.old + 4 * (2 + size store.now x + size store.now y) ≤ length work.old }
-    requires all { EntitiesIn store.now env.entities }
-    requires asked { RequestIn store.now (up_to store.now work.old top.old) env.entities env.request }
-    ensures moves { Moved work.old work.new top.old top.new (2 + size store.now x + size store.now y) }
-    ensures says { Says (suc (height + 65)) (up_to store.now work.new top.new) result (evaluate (and (expr_at height store.now x) (expr_at height store.now y)) (request_at (up_to store.now work.old top.old) env.request) (entities_at store.now env.entities)) }
+    requires left { GoodRow inputs x }
+    requires right { GoodRow inputs y }
+    requires room { HasRoom work.old (2 + size_of inputs x + size_of inputs y) }
+    requires asked { IsAsked inputs work.old }
+    ensures same { work.new.numbers.ghost_name ≡ work.old.numbers.ghost_name }
+    ensures moves { Moves work.old work.new (2 + size_of inputs.entry x + size_of inputs.entry y) }
+    ensures says { Tells inputs.entry work.old work.new result (logic decides (expr_of inputs.entry x) (expr_of inputs.entry y)) }
 {
-    let v = match eval(store, work, top, env, x, height) {
-        Ok(v) => v,
-        Err(e) => return Err(e),
-    };
-    let Value::Bool(b) = v else {
+    let Value::Bool(b) = eval_row(inputs, work, x)? else {
         return Err(EvalError::TypeError);
     };
-    if !b {
-        return Ok(Value::Bool(false));
+    if b == decides {
+        return Ok(Value::Bool(decides));
     }
-    let w = eval(store, work, top, env, y, height);
+    let w = eval_row(inputs, work, y);
     just_bool(w)
 }
 
-// The second side is not looked at if the first is true.
-#[cycle(eval_eval_and_eval_below_eval_binary_eval_form_eval_if_eval_or_eval_record_eval_set_eval_unary)]
-fn eval_or(
-    store: &[u64],
-    work: &mut [u64],
-    top: &mut usize,
-    env: Env,
-    x: usize,
-    y: usize,
-    height: u64,
-) -> Result<Value, EvalError>
-    requires low { height ≤ 65 }
-    requires small { length store.now + length work.old < 2 ^ 64 }
-    requires left { Row (GoodExpr height store.now) store.now x }
-    requires right { Row (GoodExpr height store.now) store.now y }
-    requires room { top.old + 4 * (2 + size store.now x + size store.now y) ≤ length work.old }
-    requires all { EntitiesIn store.now env.entities }
-    requires asked { RequestIn store.now (up_to store.now work.old top.old) env.entities env.request }
-    ensures moves { Moved work.old work.new top.old top.new (2 + size store.now x + size store.now y) }
-    ensures says { Says (suc (height + 65)) (up_to store.now work.new top.new) result (evaluate (or (expr_at height store.now x) (expr_at height store.now y)) (request_at (up_to store.now work.old top.old) env.request) (entities_at store.now env.entities)) }
-{
-    let v = match eval(store, work, top, env, x, height) {
-        Ok(v) => v,
-        Err(e) => return Err(e),
-    };
-    let Value::Bool(b) = v else {
-        return Err(EvalError::TypeError);
-    };
-    if b {
-        return Ok(Value::Bool(true));
-    }
-    let w = eval(store, work, top, env, y, height);
-    just_bool(w)
-}
-
-#[cycle(eval_eval_and_eval_below_eval_binary_eval_form_eval_if_eval_or_eval_record_eval_set_eval_unary)]
+#[cycle(evaluation)]
 fn eval_unary(
-    store: &[u64],
-    work: &mut [u64],
-    top: &mut usize,
-    env: Env,
+    inputs: Inputs<'_>,
+    work: &mut Work<'_>,
     op: Unary,
     x: usize,
-    height: u64,
 ) -> Result<Value, EvalError>
-    requires low { height ≤ 65 }
-    requires small { length store.now + length work.old < 2 ^ 64 }
-    requires texts { UnaryIn store.now op }
-    requires good { Row (GoodExpr height store.now) store.now x }
-    requires room { top.old + 4 * (2 + size store.now x) ≤ length work.old }
-    requires all { EntitiesIn store.now env.entities }
-    requires asked { RequestIn store.now (up_to store.now work.old top.old) env.entities env.request }
-    ensures moves { Moved work.old work.new top.old top.new (2 + size store.now x) }
-    ensures says { Says (suc (height + 65)) (up_to store.now work.new top.new) result (evaluate (unary_expr store.now op (expr_at height store.now x)) (request_at (up_to store.now work.old top.old) env.request) (entities_at store.now env.entities)) }
+    requires texts { UnaryIn inputs.store.now op }
+    requires good { GoodRow inputs x }
+    requires room { HasRoom work.old (2 + size_of inputs x) }
+    requires asked { IsAsked inputs work.old }
+    ensures same { work.new.numbers.ghost_name ≡ work.old.numbers.ghost_name }
+    ensures moves { Moves work.old work.new (2 + size_of inputs.entry x) }
+    ensures says { Tells inputs.entry work.old work.new result (unary_expr inputs.entry.store.now op (expr_of inputs.entry x)) }
 {
-    let v = match eval(store, work, top, env, x, height) {
-        Ok(v) => v,
-        Err(e) => return Err(e),
-    };
-    let t = *top;
-    apply_unary(store, &work[..t], env, op, v, height + 66)
+    let v = eval_row(inputs, work, x)?;
+    apply_unary(&work.view(inputs), op, v, inputs.height + 66)
 }
 
-// Both sides are looked at before either is found to be of a wrong type.
-#[cycle(eval_eval_and_eval_below_eval_binary_eval_form_eval_if_eval_or_eval_record_eval_set_eval_unary)]
+// Both sides are looked at before either is found to be of a wrong type. They are matched as a pair: both are evaluated, and the first failure is told.
+#[cycle(evaluation)]
 fn eval_binary(
-    store: &[u64],
-    work: &mut [u64],
-    top: &mut usize,
-    env: Env,
+    inputs: Inputs<'_>,
+    work: &mut Work<'_>,
     op: BinaryOp,
     x: usize,
     y: usize,
-    height: u64,
 ) -> Result<Value, EvalError>
-    requires low { height ≤ 65 }
-    requires small { length store.now + length work.old < 2 ^ 64 }
-    requires left { Row (GoodExpr height store.now) store.now x }
-    requires right { Row (GoodExpr height store.now) store.now y }
-    requires room { top.old + 4 * (3 + size store.now x + size store.now y) ≤ length work.old }
-    requires all { EntitiesIn store.now env.entities }
-    requires asked { RequestIn store.now (up_to store.now work.old top.old) env.entities env.request }
-    ensures moves { Moved work.old work.new top.old top.new (3 + size store.now x + size store.now y) }
-    ensures says { Says (suc (height + 65)) (up_to store.now work.new top.new) result (evaluate (binary_app (op_of op) (expr_at height store.now x) (expr_at height store.now y)) (request_at (up_to store.now work.old top.old) env.request) (entities_at store.now env.entities)) }
+    requires left { GoodRow inputs x }
+    requires right { GoodRow inputs y }
+    requires room { HasRoom work.old (3 + size_of inputs x + size_of inputs y) }
+    requires asked { IsAsked inputs work.old }
+    ensures same { work.new.numbers.ghost_name ≡ work.old.numbers.ghost_name }
+    ensures moves { Moves work.old work.new (3 + size_of inputs.entry x + size_of inputs.entry y) }
+    ensures says { Tells inputs.entry work.old work.new result (binary_app (op_of op) (expr_of inputs.entry x) (expr_of inputs.entry y)) }
 {
-    let left = eval(store, work, top, env, x, height);
-    let right = eval(store, work, top, env, y, height);
+    let left = eval_row(inputs, work, x);
+    let right = eval_row(inputs, work, y);
     match (left, right) {
         (Err(e), _) => Err(e),
         (Ok(_), Err(e)) => Err(e),
-        (Ok(v), Ok(w)) => {
-            let t = *top;
-            apply_binary(store, &work[..t], env, op, v, w, height + 66)
-        }
+        (Ok(v), Ok(w)) => apply_binary(&work.view(inputs), op, v, w, inputs.height + 66),
     }
 }
 
-// The same as `eval`, where the work memory from `limit` on holds what waits, and stays.
-#[cycle(eval_eval_and_eval_below_eval_binary_eval_form_eval_if_eval_or_eval_record_eval_set_eval_unary)]
+// The same as `eval_row`, where the work memory from `limit` on holds what waits, and stays.
+#[cycle(evaluation)]
 fn eval_below(
-    store: &[u64],
-    work: &mut [u64],
+    inputs: Inputs<'_>,
+    work: &mut Work<'_>,
     limit: usize,
-    top: &mut usize,
-    env: Env,
     at: usize,
-    height: u64,
 ) -> Result<Value, EvalError>
-    requires low { height ≤ 65 }
-    requires small { length store.now + length work.old < 2 ^ 64 }
-    requires fits { limit ≤ length work.old }
-    requires good { Row (GoodExpr height store.now) store.now at }
-    requires room { top.old + 4 * size store.now at ≤ limit }
-    requires all { EntitiesIn store.now env.entities }
-    requires asked { RequestIn store.now (up_to store.now work.old top.old) env.entities env.request }
-    ensures moves { Moved work.old work.new top.old top.new (size store.now at) }
-    ensures beyond { (i : ℕ) → limit ≤ i → slice_index work.new i ≡ slice_index work.old i }
-    ensures says { Says (height + 65) (up_to store.now work.new top.new) result (evaluate (expr_at height store.now at) (request_at (up_to store.now work.old top.old) env.request) (entities_at store.now env.entities)) }
+    requires fits { limit ≤ length work.old.numbers.now }
+    requires good { GoodRow inputs at }
+    requires room { work.old.top + 4 * size_of inputs at ≤ limit }
+    requires asked { IsAsked inputs work.old }
+    ensures same { work.new.numbers.ghost_name ≡ work.old.numbers.ghost_name }
+    ensures moves { Moves work.old work.new (size_of inputs.entry at) }
+    ensures beyond { (i : ℕ) → limit ≤ i → slice_index work.new.numbers.now i ≡ slice_index work.old.numbers.now i }
+    ensures says { Says (inputs.entry.height + 65) (made inputs.entry work.new) result (comes_to inputs.entry work.old (expr_of inputs.entry at)) }
 {
-    eval(store, &mut work[..limit], top, env, at, height)
+    let part = &mut work.numbers[..limit];
+    eval(
+        inputs.store,
+        part,
+        &mut work.top,
+        inputs.env,
+        at,
+        inputs.height,
+    )
 }
 
 // The elements wait at the end of the work memory until all of them have come to something.
-#[cycle(eval_eval_and_eval_below_eval_binary_eval_form_eval_if_eval_or_eval_record_eval_set_eval_unary)]
+#[cycle(evaluation)]
 fn eval_set(
-    store: &[u64],
-    work: &mut [u64],
-    top: &mut usize,
-    env: Env,
+    inputs: Inputs<'_>,
+    work: &mut Work<'_>,
     n: usize,
     first: usize,
-    height: u64,
 ) -> Result<Value, EvalError>
-    requires low { height ≤ 65 }
-    requires small { length store.now + length work.old < 2 ^ 64 }
-    requires good { RowsFrom (GoodExpr height store.now) store.now first n }
-    requires room { top.old + 4 * (3 + sizes store.now first n) ≤ length work.old }
-    requires all { EntitiesIn store.now env.entities }
-    requires asked { RequestIn store.now (up_to store.now work.old top.old) env.entities env.request }
-    ensures moves { Moved work.old work.new top.old top.new (3 + sizes store.now first n) }
-    ensures says { Says (suc (height + 65)) (up_to store.now work.new top.new) result (evaluate (set (exprs_from (expr_at height store.now) store.now first n)) (request_at (up_to store.now work.old top.old) env.request) (entities_at store.now env.entities)) }
+    requires good { RowsFrom (GoodExpr inputs.height inputs.store.now) inputs.store.now first n }
+    requires room { HasRoom work.old (3 + sizes inputs.store.now first n) }
+    requires asked { IsAsked inputs work.old }
+    ensures same { work.new.numbers.ghost_name ≡ work.old.numbers.ghost_name }
+    ensures moves { Moves work.old work.new (3 + sizes inputs.entry.store.now first n) }
+    ensures says { Tells inputs.entry work.old work.new result (set (exprs_from (expr_at inputs.entry.height inputs.entry.store.now) inputs.entry.store.now first n)) }
 {
-    let limit = work.len() - 2 * n;
+    let limit = work.numbers.len() - 2 * n;
     let mut at = first;
+    // rows have lengths of their own, so the next is found from the one before it
     for k in 0..n {
-        let v = match eval_below(store, work, limit, top, env, at, height) {
-            Ok(v) => v,
-            Err(e) => return Err(e),
-        };
-        lay_element(work, limit + 2 * k, v);
-        at += store[at + 1] as usize;
+        let v = eval_below(inputs, work, limit, at)?;
+        lay_element(work.numbers, limit + 2 * k, v);
+        at += inputs.store[at + 1] as usize;
     }
-    Ok(make_set(store, work, top, limit, n, height + 65))
+    let set = make_set(
+        inputs.store,
+        work.numbers,
+        &mut work.top,
+        limit,
+        n,
+        inputs.height + 65,
+    );
+    Ok(set)
 }
 
-// So do the attributes of a record.
-#[cycle(eval_eval_and_eval_below_eval_binary_eval_form_eval_if_eval_or_eval_record_eval_set_eval_unary)]
+// So do the attributes of a record; a name stands before each row and waits with its value, so the walk and what is proved of it are not those of a set.
+#[cycle(evaluation)]
 fn eval_record(
-    store: &[u64],
-    work: &mut [u64],
-    top: &mut usize,
-    env: Env,
+    inputs: Inputs<'_>,
+    work: &mut Work<'_>,
     n: usize,
     first: usize,
-    height: u64,
 ) -> Result<Value, EvalError>
-    requires low { height ≤ 65 }
-    requires small { length store.now + length work.old < 2 ^ 64 }
-    requires good { AttrsFrom (GoodExpr height store.now) store.now first n }
-    requires room { top.old + 4 * (3 + attr_sizes store.now first n) ≤ length work.old }
-    requires all { EntitiesIn store.now env.entities }
-    requires asked { RequestIn store.now (up_to store.now work.old top.old) env.entities env.request }
-    ensures moves { Moved work.old work.new top.old top.new (3 + attr_sizes store.now first n) }
-    ensures says { Says (suc (height + 65)) (up_to store.now work.new top.new) result (evaluate (record_of (attrs_from (expr_at height store.now) store.now first n)) (request_at (up_to store.now work.old top.old) env.request) (entities_at store.now env.entities)) }
+    requires good { AttrsFrom (GoodExpr inputs.height inputs.store.now) inputs.store.now first n }
+    requires room { HasRoom work.old (3 + attr_sizes inputs.store.now first n) }
+    requires asked { IsAsked inputs work.old }
+    ensures same { work.new.numbers.ghost_name ≡ work.old.numbers.ghost_name }
+    ensures moves { Moves work.old work.new (3 + attr_sizes inputs.entry.store.now first n) }
+    ensures says { Tells inputs.entry work.old work.new result (record_of (attrs_from (expr_at inputs.entry.height inputs.entry.store.now) inputs.entry.store.now first n)) }
 {
-    let limit = work.len() - 3 * n;
+    let limit = work.numbers.len() - 3 * n;
     let mut name = first;
+    // names and rows have lengths of their own, so the next is found from the one before it
     for k in 0..n {
-        let at = name + 1 + store[name] as usize;
-        let v = match eval_below(store, work, limit, top, env, at, height) {
-            Ok(v) => v,
-            Err(e) => return Err(e),
-        };
-        lay_attr(work, limit + 3 * k, name, v);
-        name = at + store[at + 1] as usize;
+        let at = name + 1 + inputs.store[name] as usize;
+        let v = eval_below(inputs, work, limit, at)?;
+        lay_attr(work.numbers, limit + 3 * k, name, v);
+        name = at + inputs.store[at + 1] as usize;
     }
-    Ok(make_record(store, work, top, limit, n, height + 65))
+    let record = make_record(
+        inputs.store,
+        work.numbers,
+        &mut work.top,
+        limit,
+        n,
+        inputs.height + 65,
+    );
+    Ok(record)
 }

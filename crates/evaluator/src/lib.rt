@@ -3,5 +3,6 @@
 
 pub mod apply;
 pub mod expressions;
+mod running;
 
-pub use apply::Env;
+pub use entities::Env;

@@ -2,11 +2,12 @@
 #![tactic(auto)]
 
 ghost use Rattle.std.specs.Prelude.{◌≡◌, ◌+◌, ◌^◌, ◌<◌, ◌≤◌, length};
-ghost use Rattle.values.specs.Held.{lowered};
 ghost use Rattle.exprs.specs.Heads.{var_at, op_at, head_at, Inside};
 ghost use Rattle.exprs.specs.Stored.{ExprRowsMean};
 
-#[derive(Clone, Copy)]
+use values::nodes::int;
+
+#[derive(Clone, Copy, Debug, PartialEq, Eq)]
 pub enum Var {
     Principal,
     Action,
@@ -14,7 +15,7 @@ pub enum Var {
     Context,
 }
 
-#[derive(Clone, Copy)]
+#[derive(Clone, Copy, Debug, PartialEq, Eq)]
 pub enum BinaryOp {
     Eq,
     Mem,
@@ -30,8 +31,9 @@ pub enum BinaryOp {
     ContainsAny,
 }
 
-// The numbers are places: of texts, of names of entities, and of the parts. A list has how many parts it has, and where the first of them begins.
-#[derive(Clone, Copy)]
+// The numbers are places and no Box: all memory is lent. They are those of texts, of names of entities, and of the parts. Set and Record have how many parts
+// they have, and where the first of them begins: handed on as two numbers to loops that need both.
+#[derive(Clone, Copy, Debug, PartialEq, Eq)]
 pub enum Expr {
     Bool(bool),
     Int(i64),
@@ -53,46 +55,43 @@ pub enum Expr {
     Record(usize, usize),
 }
 
-fn var_of(n: u64) -> Var
-    ensures { result ≡ var_at n }
-{
-    match n {
-        0 => Var::Principal,
-        1 => Var::Action,
-        2 => Var::Resource,
-        _ => Var::Context,
+// Rows are of calls that were read, so no number stands for nothing: the last is for all that are left.
+impl From<u64> for Var {
+    ghost from_gives = { λ n v. v ≡ var_at n };
+
+    fn from(n: u64) -> Self {
+        match n {
+            0 => Var::Principal,
+            1 => Var::Action,
+            2 => Var::Resource,
+            _ => Var::Context,
+        }
     }
 }
 
-fn op_of(n: u64) -> BinaryOp
-    ensures { result ≡ op_at n }
-{
-    match n {
-        0 => BinaryOp::Eq,
-        1 => BinaryOp::Mem,
-        2 => BinaryOp::HasTag,
-        3 => BinaryOp::GetTag,
-        4 => BinaryOp::Less,
-        5 => BinaryOp::LessEq,
-        6 => BinaryOp::Add,
-        7 => BinaryOp::Sub,
-        8 => BinaryOp::Mul,
-        9 => BinaryOp::Contains,
-        10 => BinaryOp::ContainsAll,
-        _ => BinaryOp::ContainsAny,
-    }
-}
+impl From<u64> for BinaryOp {
+    ghost from_gives = { λ n o. o ≡ op_at n };
 
-// Integers stand in memory 2^63 higher.
-fn int_of(x: u64) -> i64
-    ensures { result ≡ lowered x }
-{
-    (x as i128 - 0x8000_0000_0000_0000) as i64
+    fn from(n: u64) -> Self {
+        match n {
+            0 => BinaryOp::Eq,
+            1 => BinaryOp::Mem,
+            2 => BinaryOp::HasTag,
+            3 => BinaryOp::GetTag,
+            4 => BinaryOp::Less,
+            5 => BinaryOp::LessEq,
+            6 => BinaryOp::Add,
+            7 => BinaryOp::Sub,
+            8 => BinaryOp::Mul,
+            9 => BinaryOp::Contains,
+            10 => BinaryOp::ContainsAll,
+            _ => BinaryOp::ContainsAny,
+        }
+    }
 }
 
 // What stands at a place of the store: each expression begins with its form and the length of its row.
 pub fn read(store: &[u64], at: usize) -> Expr
-    requires small { length store.now < 2 ^ 64 }
     requires fits { at + 3 ≤ length store.now }
     requires inside { Inside store.now (head_at store.now at) }
     ensures { result ≡ head_at store.now at }
@@ -100,10 +99,10 @@ pub fn read(store: &[u64], at: usize) -> Expr
     let x = at + 2;
     match store[at] {
         0 => Expr::Bool(store[x] == 1),
-        1 => Expr::Int(int_of(store[x])),
+        1 => Expr::Int(int(store[x])),
         2 => Expr::String(x),
         3 => Expr::Entity(x),
-        4 => Expr::Var(var_of(store[x])),
+        4 => Expr::Var(Var::from(store[x])),
         5 => {
             let y = x + store[x + 1] as usize;
             Expr::If(x, y, y + store[y + 1] as usize)
@@ -115,7 +114,11 @@ pub fn read(store: &[u64], at: usize) -> Expr
         10 => Expr::IsEmpty(x),
         11 => Expr::Like(x, x + 1 + store[x] as usize),
         12 => Expr::Is(x, x + 1 + store[x] as usize),
-        13 => Expr::Binary(op_of(store[x]), x + 1, x + 1 + store[x + 1 + 1] as usize),
+        13 => Expr::Binary(
+            BinaryOp::from(store[x]),
+            x + 1,
+            x + 1 + store[x + 1 + 1] as usize,
+        ),
         14 => Expr::GetAttr(x, x + 1 + store[x] as usize),
         15 => Expr::HasAttr(x, x + 1 + store[x] as usize),
         16 => Expr::Set(store[x] as usize, x + 1),
@@ -124,8 +127,6 @@ pub fn read(store: &[u64], at: usize) -> Expr
 }
 
 // An expression whose row lies anywhere in a memory is good there, and is that expression.
-pub fn rows_mean() -> u8
+pub fn rows_mean()
     ensures { ExprRowsMean }
-{
-    0
-}
+{}

@@ -1,6 +1,6 @@
 -- Lemmas of this crate.
 pub mod Joins
-pub mod Places
+pub mod Firsts
 pub mod Lists
+pub mod Lines
 pub mod Outcomes
-pub mod Sorts

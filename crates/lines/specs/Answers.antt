@@ -2,23 +2,10 @@
 use Rattle.std.specs.Prelude.{ℕ, ◌^◌, ◌<◌, Bool, cond, List, [], ◌++◌, codes, decimal}
 use Rattle.spec.specs.Basics.{Text}
 use Rattle.spec.specs.Policies.{Decision, allow, deny, Response}
-use Rattle.spec.specs.Typecheck.{TypeError, lub_err, unexpected_type, attr_not_found, tag_not_found, unknown_entity, empty_set_err}
-use Rattle.spec.specs.Validate.{ValidationError, type_error, impossible_policy, validation_error_number}
+use Rattle.spec.specs.Validate.{ValidationError, validation_error_number}
 use Rattle.spec.specs.Calls.{refusal_number, Answer, refused, done, all_valid, not_valid, authorized}
+use Rattle.answers.specs.Code.{why_text}
 use Rattle.lines.specs.Quotes.{quote, quotes_or}
-
--- why a policy does not check, in words
-abbrev pub type_error_text : TypeError → List ℕ
-type_error_text lub_err = codes "incompatible types"
-type_error_text unexpected_type = codes "unexpected type"
-type_error_text attr_not_found = codes "attribute not found"
-type_error_text tag_not_found = codes "tag not found"
-type_error_text unknown_entity = codes "unknown entity or type"
-type_error_text empty_set_err = codes "empty set"
-
-abbrev pub why_text : ValidationError → List ℕ
-why_text (type_error e) = type_error_text e
-why_text impossible_policy = codes "never true"
 
 abbrev pub decision_text : Decision → List ℕ
 decision_text allow = codes "allowed"

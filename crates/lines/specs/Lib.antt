@@ -3,3 +3,4 @@ pub mod Quotes
 pub mod Answers
 pub mod Parts
 pub mod Results
+pub mod Failures

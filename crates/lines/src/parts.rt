@@ -1,36 +1,26 @@
-// The parts of an answer: a truth, and a text with its length before it.
-ghost use Rattle.std.specs.Prelude.{◌≡◌, ◌+◌, ◌<◌, ◌≤◌, length, IfSome, OnSome};
-ghost use Rattle.std.specs.Option.{option_map};
-ghost use Rattle.lines.specs.Parts.{truth_at, text_at};
+// The parts of an answer, each read from the beginning of what is left of it; what is left behind it is told too.
+ghost use Rattle.std.specs.Prelude.{◌≡◌, ℕ, ◌+◌, ◌≤◌, List, ◌++◌, length, IfOk, IsOkAnd};
+ghost use Rattle.spec.specs.Bytes.{encode_text};
+ghost use Rattle.lines.specs.Parts.{TruthFirst};
 
-use words::word_at;
+use crate::failures::LineError;
+use words::first_text;
 
-// The truth at `at`: 1 or 0.
-pub fn truth_at(answer: &[u8], at: usize) -> Option<bool>
-    ensures value { result ≡ truth_at at answer.now }
-    ensures within { OnSome result (at < length answer.now) }
+// A truth: 1 or 0.
+pub(crate) fn truth(answer: &[u8]) -> Result<(bool, &[u8]), LineError>
+    ensures { TruthFirst answer.now result }
 {
-    if at >= answer.len() {
-        return None;
-    }
-    match answer[at] {
-        0 => Some(false),
-        1 => Some(true),
-        _ => None,
+    match answer.split_first() {
+        Some((0, rest)) => Ok((false, rest)),
+        Some((1, rest)) => Ok((true, rest)),
+        _ => Err(LineError::NotAnAnswer),
     }
 }
 
-// The text at `at`: its length, then its bytes.
-pub fn text_at(answer: &[u8], at: usize) -> Option<&[u8]>
-    ensures value { option_map (λ t. t.now) result ≡ text_at at answer.now }
-    ensures within { IfSome result (λ t. at + 8 + length t.now ≤ length answer.now) }
+// A text, behind its length.
+pub(crate) fn text(answer: &[u8]) -> Result<(&[u8], &[u8]), LineError>
+    ensures reads { (id rest : List ℕ) → answer.now ≡ encode_text id ++ rest → IsOkAnd result (λ p. (p.0.now ≡ id) × (p.1.now ≡ rest)) }
+    ensures shorter { IfOk result (λ p. 8 + length p.1.now ≤ length answer.now) }
 {
-    let Some(length) = word_at(answer, at) else {
-        return None;
-    };
-    let start = at + 8;
-    if answer.len() - start < length as usize {
-        return None;
-    }
-    Some(&answer[start..start + length as usize])
+    first_text(answer).ok_or(LineError::NotAnAnswer)
 }

@@ -1,6 +1,6 @@
 // Each kind of line, from answer bytes written by hand.
-use crate::line_of;
 use crate::quotes::quoted;
+use crate::{LineError, line_of};
 use std::alloc::Global;
 use std::process::Abort;
 use std::test::Fail;
@@ -70,4 +70,11 @@ fn no_answers(rt: HostRuntime) {
     no_line(&rt, heap, b"\x03\0\0\0\0\0\0\0\x02p4\x08");
     no_line(&rt, heap, b"\x04\0\0\0\x01");
     no_line(&rt, heap, b"\x04\0\0\0\x01\x01\0");
+}
+
+#[test]
+fn failures_in_words(rt: HostRuntime) -> Result<(), Fail> {
+    let words = format!(in rt.alloc(); "{}", LineError::NotAnAnswer)?;
+    assert_eq!(rt; words.as_str(), "the bytes are no answer");
+    Ok(())
 }

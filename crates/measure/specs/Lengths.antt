@@ -1,7 +1,7 @@
--- How long the rows of trees are, kind by kind and field by field. Assumes nothing: these are definitions.
-use Rattle.std.specs.Prelude.{ℕ, zero, suc, ◌+◌, length}
-use Rattle.spec.specs.Calls.{sum_of, size_text}
-use Rattle.wire.specs.Grammar.{Kind, value, expr, type, scope, action_scope, uid, attrs, record_type, condition, entity, entity_entry, action_entry, request, Tree, Field, part, small, word, text, pattern, node, list, Fields, no, one, more, Content, Contents}
+-- How long the rows of trees are, kind by kind. Assumes nothing: these are definitions.
+use Rattle.std.specs.Prelude.{ℕ, zero, suc, length}
+use Rattle.wire.specs.Grammar.{Kind, value, expr, type, scope, action_scope, uid, attrs, record_type, condition, entity, entity_entry, action_entry, request, Tree, Field, part, small, word, text, pattern, node, list, Fields, no, one, more}
+use Rattle.reader.specs.Counts.{Counts}
 use Rattle.copy.specs.Copied.{row_tree}
 
 abbrev pub length_tree : (k : Kind) → Tree k → ℕ
@@ -78,18 +78,6 @@ abbrev pub beginning : ℕ → ℕ
 beginning zero = 1
 beginning (suc n) = 2
 
--- u is what a number takes
-abbrev mutual
-  pub length_field : ℕ → (f : Field) → Content f → ℕ
-  length_field u part x = 0
-  length_field u (small e) x = u
-  length_field u word x = u
-  length_field u text x = size_text x
-  length_field u pattern x = size_text x
-  length_field u (node k) x = length_tree k x
-  length_field u (list fs) xs = beginning (slots fs) + sum_of (λ x. slots fs + length_fields u fs x) xs
-
-  pub length_fields : ℕ → (fs : Fields) → Contents fs → ℕ
-  length_fields u no x = 0
-  length_fields u (one f) x = length_field u f x
-  length_fields u (more f fs) x = length_field u f x.0 + length_fields u fs x.1
+-- ---- what a row's numbers are counted by; a byte takes at most three
+abbrev pub row_counts : Counts
+row_counts = record { tree = length_tree; part = 0; unit = unit; head = head_length; beginning = λ fs. beginning (slots fs); each = slots; weight = 3 }

@@ -1,3 +1,3 @@
 -- What the contracts cite.
 pub mod Lengths
-pub mod Inside
+pub mod Long

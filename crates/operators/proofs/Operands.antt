@@ -1,12 +1,12 @@
 -- What the operands of an operator are, by their kinds, and results that are a truth value or an integer.
-use Rattle.std.proofs.Common.{◌≡◌, ℕ, zero, suc, ◌+◌, ◌-◌, ◌*◌, Bool, true, false, cond, eqb, ltb, leb, List, ℤ, Ok, sym, refl, ap, ◌∙◌, ap₂}
+use Rattle.std.proofs.Common.{◌≡◌, ℕ, zero, suc, ◌+◌, ◌-◌, ◌*◌, Bool, true, false, cond, eqb, ltb, leb, List, ℤ, Option, Some, None, Ok, sym, refl, ap, ◌∙◌, ap₂}
 use Rattle.spec.specs.Basics.{Except, ok, error, ◌>>=◌}
 use Rattle.spec.specs.Values as s
 use Rattle.spec.specs.Evaluate.{Error, type_error, arith_bounds_error, of_bool, of_int, as_bool, as_int, as_string, as_entity_uid, as_set, half, magnitude, signed, differ, product, with_ints, with_sets}
 use Rattle.values.specs.Held.{raised, text_at, TextIn, uid_at, UIDIn, means, decode, Good, Stands, elements_of}
 use Rattle.values.specs.declared.nodes.Value.{Value}
 use Rattle.values.specs.declared.nodes.Value.TheVariants.{Bool as B, Int, String, Entity, Set, Record}
-use Rattle.operators.specs.Code.{Says}
+use Rattle.operators.specs.Code.{Says, Counts, counted}
 
 -- ---- operands of the right kind
 pub is-bool : (h : ℕ) (m : List ℕ) (b : Bool) (a : s.Value) → Stands h m (B b) a → as_bool a ≡ ok b
@@ -104,9 +104,11 @@ pub says-bool : (h : ℕ) (m : List ℕ) (v : Value) (b : Bool) (o : Except Erro
 says-bool zero m v b o g e = absurd g
 says-bool (suc h) m v b o g e = (e, tt)
 
-pub says-int : (h : ℕ) (m : List ℕ) (v : Value) (z : ℤ) (o : Except Error s.Value) → Good h m v → o ≡ ok (of_int (raised z)) → Says h m (Ok (Int z)) o
-says-int zero m v z o g e = absurd g
-says-int (suc h) m v z o g e = (e, tt)
+-- an integer that fits, or that it left 64 bits
+pub says-int : (h : ℕ) (m : List ℕ) (v : Value) (z : Option ℤ) (o x : Except Error s.Value) → Good h m v → Counts z o → x ≡ o → Says h m (counted z) x
+says-int zero m v z o x g k e = absurd g
+says-int (suc h) m v (Some z) o x g k e = (e ∙ k, tt)
+says-int (suc h) m v None o x g k e = e ∙ k
 
 -- two integers, two sets
 pub with-ints : (f : ℕ → ℕ → Except Error s.Value) (a b : s.Value) (i j : ℤ) → as_int a ≡ ok (raised i) → as_int b ≡ ok (raised j) → with_ints a b f ≡ f (raised i) (raised j)

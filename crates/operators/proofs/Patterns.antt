@@ -1,9 +1,10 @@
 -- Patterns against texts: what is left of both says what they say as a whole, if of all stars only the last is tried again.
 use Rattle.std.proofs.Common.{◌≡◌, ℕ, zero, suc, ◌+◌, ◌-◌, ◌*◌, ◌<◌, ◌≤◌, Bool, true, false, cond, ◌&&◌, ◌||◌, eqb, List, [], ◌∷◌, length, get_or, drop, sym, refl, ap, ◌∙◌, ap₂, add-mul, arith}
 use Rattle.std.proofs.lemmas.Bool.Decides.{nat_tests}
-use Rattle.std.proofs.lemmas.Bool.{or_right, or_left, ne_eqb}
+use Rattle.std.proofs.lemmas.Bool.{or_right, or_left}
 use Rattle.std.proofs.lemmas.Nat.{mul-le}
 use Rattle.std.proofs.lemmas.List.{drop_all, drop_more, get_or-take, get_or-drop}
+use Rattle.std.specs.List.{list_all, range_with_len}
 use Rattle.laws.proofs.Texts.{false-true}
 use Rattle.spec.specs.Evaluate.{any_suffix, starts_with, matches}
 use Rattle.values.specs.Held.{text_at, TextIn}
@@ -237,15 +238,11 @@ falls-back n k i star tried l =
     omega (arith, ap (λ x. x * (n + 1)) e, add-mul (k - (tried + 1)) 1 (n + 1))
 
 -- ---- at the end of the text
-pub stars-on : (ps : List ℕ) (i : ℕ) → i < length ps → get_or ps i 0 ≡ 256 → matches (drop i ps) [] ≡ matches (drop (i + 1) ps) []
+star-step : (ps : List ℕ) (i : ℕ) → i < length ps → matches (drop i ps) [] ≡ cond (eqb (get_or ps i 0) 256) (matches (drop (i + 1) ps) []) false
 unfolding matches
-stars-on ps i l e = ap (λ qs. matches qs []) (drop_more ps i 0 l) ∙ ap (λ x. cond (eqb x 256) (matches (drop (i + 1) ps) []) false) e
+star-step ps i l = ap (λ qs. matches qs []) (drop_more ps i 0 l)
 
-pub no-star : (ps : List ℕ) (i : ℕ) → i < length ps → (get_or ps i 0 ≡ 256 → ⊥) → matches (drop i ps) [] ≡ false
-unfolding matches
-no-star ps i l n = ap (λ qs. matches qs []) (drop_more ps i 0 l) ∙ ap (λ b. cond b (matches (drop (i + 1) ps) []) false) (ne_eqb (get_or ps i 0) 256 n)
-
-pub stars-end : (ps : List ℕ) (i : ℕ) → length ps ≤ i → matches (drop i ps) [] ≡ true
+stars-end : (ps : List ℕ) (i : ℕ) → length ps ≤ i → matches (drop i ps) [] ≡ true
 unfolding matches
 stars-end ps i l = ap (λ qs. matches qs []) (drop_all i ps l)
 
@@ -256,3 +253,15 @@ byte m p i l = get_or-take (get_or m p 0) (drop (p + 1) m) i 0 l ∙ get_or-drop
 pub step_is : (m : List ℕ) (p q i j x y : ℕ) → TextIn m p → i < get_or m p 0 → j < get_or m q 0 → x ≡ get_or m (p + 1 + i) 0 → y ≡ get_or m (q + 1 + j) 0 → meets x y ≡ step_at (drop i (text_at m p)) (get_or (text_at m q) j 0)
 step_is m p q i j x y h l u e f =
     ap₂ meets (e ∙ sym (byte m p i l)) (f ∙ sym (byte m q j u)) ∙ sym (ap (λ qs. step_at qs (get_or (text_at m q) j 0)) (drop_more (text_at m p) i 0 (omega (arith, l, long m p h))))
+
+-- the numbers of the pattern from the i-th on are stars
+pub all-stars : (m : List ℕ) (p i k : ℕ) → TextIn m p → i + k ≡ get_or m p 0 → list_all (λ j. eqb (get_or m (p + 1 + j) 0) 256) (range_with_len i k) ≡ matches (drop i (text_at m p)) []
+all-stars m p i zero h e = sym (stars-end (text_at m p) i (omega (arith, long m p h)))
+all-stars m p i (suc k) h e =
+    let b : Bool = eqb (get_or m (p + 1 + i) 0) 256 in
+    let x : Bool = matches (drop (i + 1) (text_at m p)) [] in
+    ap (λ y. b && y) (all-stars m p (i + 1) k h (omega arith)) ∙ either b x ∙ sym (star-step (text_at m p) i (omega (arith, long m p h)) ∙ ap (λ y. cond (eqb y 256) x false) (byte m p i (omega arith)))
+  where
+    either : (b x : Bool) → (b && x) ≡ cond b x false
+    either true x = refl
+    either false x = refl

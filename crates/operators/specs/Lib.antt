@@ -1,3 +1,4 @@
 -- What the contracts cite.
 pub mod Code
 pub mod Patterns
+pub mod Messages

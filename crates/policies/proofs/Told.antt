@@ -13,7 +13,7 @@ use Rattle.values.specs.Held.{text_at, uid_at}
 use Rattle.values.proofs.Frame.{text-on, uid-on}
 use Rattle.entities.specs.Rows.{uids_at, entities_at, SubjectIn}
 use Rattle.entities.specs.Code.{in_row}
-use Rattle.entities.specs.declared.lookup.Entities.{Entities}
+use Rattle.shelves.specs.declared.table.Table.{Table}
 use Rattle.entities.specs.declared.requests.Subject.{Subject}
 use Rattle.entities.proofs.Framed.{uids-on}
 use Rattle.entities.proofs.Ancestry.{any_same, in-row}
@@ -121,7 +121,7 @@ module _ (store work : List ℕ) (x : Subject) where
   holds (IsMem t p) = same (text_at (store ++ work) t) (text_at (store ++ work) x.uid) && in_row (store ++ work) x.uid x.row (uid_at (store ++ work) p)
   holds (InAny n p) = any (in_row (store ++ work) x.uid x.row) (uids_at (store ++ work) p n)
 
-  module _ (en : Entities) (v : Var) (q : s.Request) (S : SubjectIn store (store ++ work) en x) (h : var_of v q ≡ prim (entity_uid (uid_at (store ++ work) x.uid))) where
+  module _ (en : Table) (v : Var) (q : s.Request) (S : SubjectIn store (store ++ work) en x) (h : var_of v q ≡ prim (entity_uid (uid_at (store ++ work) x.uid))) where
     is-in : (p : ℕ) (w : EntityUID) → uid_at (store ++ work) p ≡ w → in_entity (uid_at (store ++ work) x.uid) w (entities_at store en) ≡ in_row (store ++ work) x.uid x.row (uid_at (store ++ work) p)
     is-in p w e =
         sym (in-row store work x.uid (entities_at store en) x.row S.found w) ∙ ap (in_row (store ++ work) x.uid x.row) (sym e)

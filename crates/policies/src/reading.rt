@@ -1,17 +1,29 @@
 // A policy by value over its row: its effect, its scopes, and where its conditions lie.
 ghost use Rattle.std.specs.Prelude.{◌≡◌, ◌^◌, ◌<◌, length};
-ghost use Rattle.policies.specs.Heads.{scope_at, policy_head};
+ghost use Rattle.policies.specs.Heads.{effect_at, scope_at, policy_head};
 ghost use Rattle.policies.specs.Stored.{ScopeRow, PolicyIn};
 
-#[derive(Clone, Copy)]
+#[derive(Clone, Copy, Debug, PartialEq, Eq)]
 pub enum Effect {
     Permit,
     Forbid,
 }
 
-// Whom a policy is about. The numbers are places of names and of texts; `InAny`, which only an action's scope can be, has how many names there are, and where
-// the first of them begins.
-#[derive(Clone, Copy)]
+// Rows are of calls that were read, so the other number is for all that are left.
+impl From<u64> for Effect {
+    ghost from_gives = { λ n e. e ≡ effect_at n };
+
+    fn from(n: u64) -> Effect {
+        match n {
+            0 => Effect::Permit,
+            _ => Effect::Forbid,
+        }
+    }
+}
+
+// Whom a policy is about: places of names and of texts, and no Box: all memory is lent. `InAny`, which only an action's scope can be, has how many names there
+// are, and where the first of them begins.
+#[derive(Clone, Copy, Debug, PartialEq, Eq)]
 pub enum Scope {
     Any,
     Eq(usize),
@@ -22,7 +34,7 @@ pub enum Scope {
 }
 
 // `id` is the place of a text, and `conditions` that of the number of conditions, behind which they lie.
-#[derive(Clone, Copy)]
+#[derive(Clone, Copy, Debug, PartialEq, Eq)]
 pub struct Policy {
     pub id: usize,
     pub effect: Effect,
@@ -34,7 +46,6 @@ pub struct Policy {
 
 // A scope begins with its form and the length of its row.
 fn read_scope(store: &[u64], at: usize) -> Scope
-    requires small { length store.now < 2 ^ 64 }
     requires good { ScopeRow store.now at }
     ensures { result ≡ scope_at store.now at }
 {
@@ -51,7 +62,6 @@ fn read_scope(store: &[u64], at: usize) -> Scope
 
 // The policy whose row begins at a place of the store.
 pub fn read_policy(store: &[u64], at: usize) -> Policy
-    requires small { length store.now < 2 ^ 64 }
     requires good { PolicyIn store.now at }
     ensures { result ≡ policy_head store.now at }
 {
@@ -62,11 +72,7 @@ pub fn read_policy(store: &[u64], at: usize) -> Policy
     let conditions = resource + store[resource + 1] as usize;
     Policy {
         id: at,
-        effect: if store[effect] == 0 {
-            Effect::Permit
-        } else {
-            Effect::Forbid
-        },
+        effect: Effect::from(store[effect]),
         principal: read_scope(store, principal),
         action: read_scope(store, action),
         resource: read_scope(store, resource),

@@ -1,13 +1,15 @@
 -- What is read at a place, step by step.
-use Rattle.std.proofs.Common.{◌≡◌, ℕ, zero, suc, ◌+◌, ◌-◌, ◌*◌, ◌<◌, ◌≤◌, Bool, true, false, cond, leb, List, [], ◌∷◌, length, get_or, drop, Ok, Err, sym, refl, ap, ◌∙◌, zero-add, arith}
+use Rattle.std.proofs.Common.{◌≡◌, ℕ, zero, suc, ◌+◌, ◌-◌, ◌<◌, ◌≤◌, Bool, true, false, cond, ⊎_elim, eqb, leb, List, [], ◌∷◌, length, get_or, drop, Ok, Err, sym, refl, ap, ◌∙◌, zero-add, arith}
 use mathlib.Core.Option.{some, none}
-use Rattle.std.proofs.lemmas.Bool.{le-leb, lt-leb, ne_eqb, cond-true, cond-false}
+use Rattle.std.proofs.lemmas.Bool.{le-leb, lt-leb, cases_lt, ne_eqb, cond-true, cond-false}
 use Rattle.std.proofs.lemmas.List.{length-drop, drop_more, drop-drop, drop_all, length-take-le}
+use Rattle.std.specs.Option.{ok_or}
 use Rattle.spec.specs.Bytes.{Bytes}
 use Rattle.spec.specs.Calls.{size_text, sum_of}
 use Rattle.reader.specs.declared.scan.Found.{Found}
-use Rattle.wire.specs.Read.{Read, got, stops, past, turn, follow, big_endian, read_word, read_run, read_text, read_elements, read_pattern, nth, read_one, next, read_list}
-use Rattle.reader.specs.Found.{found, taken}
+use Rattle.wire.specs.Read.{Read, got, stops, past, turn, follow, read_word, read_run, read_text, read_elements, read_pattern, nth, read_one, next, read_list}
+use Rattle.words.specs.Words.{big_endian, word_at}
+use Rattle.reader.specs.Found.{found, taken, ended}
 
 -- ---- words
 pub word-short : (bs : Bytes) → length bs < 8 → read_word bs ≡ stops (length bs)
@@ -27,16 +29,28 @@ word-short-at bs at h k =
     let s : length (drop at bs) < 8 = rw (length-drop at bs) k in
     rw (word-short (drop at bs) s) (ap (λ (n : ℕ). Err n) (end-at bs at h))
 
+-- the code's answer is what is read
+pub word-taken : (bs : Bytes) (at : ℕ) → at ≤ length bs → ok_or (word_at at bs) (length bs) ≡ taken at (read_word (drop at bs))
+word-taken bs at h = ⊎_elim short full (cases_lt (length bs) (at + 8))
+  where
+    short : length bs < at + 8 → ok_or (word_at at bs) (length bs) ≡ taken at (read_word (drop at bs))
+    short l = ap (λ r. ok_or r (length bs)) (cond-false _ _ _ (lt-leb (at + 8) (length bs) l)) ∙ sym (word-short-at bs at h (omega arith))
+
+    full : at + 8 ≤ length bs → ok_or (word_at at bs) (length bs) ≡ taken at (read_word (drop at bs))
+    full l =
+        let s : 8 ≤ length (drop at bs) = omega (arith, length-drop at bs) in
+        ap (λ r. ok_or r (length bs)) (cond-true _ _ _ (le-leb (at + 8) (length bs) l)) ∙ sym (ap (λ R. taken at R) (word-full (drop at bs) s))
+
 pub word_ok : (at n : ℕ) (bs : Bytes) → Ok n ≡ taken at (read_word bs) → read_word bs ≡ got n 8
 unfolding read_word
 word_ok at n bs e = go (leb 8 (length bs)) e
   where
     go : (b : Bool) → Ok n ≡ taken at (cond b (got (big_endian bs) 8) (stops (length bs))) → cond b (got (big_endian bs) 8) (stops (length bs)) ≡ got n 8
     go true e = cc
-    go false e = let z : ◌≡◌ {A = ℕ} 0 1 = cc in absurd (omega arith)
+    go false e = cc
 
 pub taken-err : {X : Type 0} (s : X → ℕ) (at k : ℕ) (R : Read X) → Err k ≡ taken at R → Err k ≡ found s at R
-taken-err s at k (got x n) e = let z : ◌≡◌ {A = ℕ} 0 1 = cc in absurd (omega arith)
+taken-err s at k (got x n) e = cc
 taken-err s at k (stops i) e = cc
 
 -- ---- one thing behind another
@@ -58,15 +72,15 @@ pub follow-ok : {X Y : Type 0} (sx : X → ℕ) (sy : Y → ℕ) (at : ℕ) (bs 
 follow-ok sx sy at bs f (got x n) k e =
     let q : at + n ≡ f.end = cc in
     (x, (cc), follow-got sy at n bs x (got x n) k refl ∙ ap (λ m. found sy m (k x (drop m bs))) q)
-follow-ok sx sy at bs f (stops j) k e = let z : ◌≡◌ {A = ℕ} 0 1 = cc in absurd (omega arith)
+follow-ok sx sy at bs f (stops j) k e = cc
 
 pub follow-err : {X Y : Type 0} (sx : X → ℕ) (sy : Y → ℕ) (at j : ℕ) (bs : Bytes) (R : Read X) (k : X → Bytes → Read Y) → Err j ≡ found sx at R → Err j ≡ found sy at (follow R (drop at bs) k)
-follow-err sx sy at j bs (got x n) k e = let z : ◌≡◌ {A = ℕ} 0 1 = cc in absurd (omega arith)
+follow-err sx sy at j bs (got x n) k e = cc
 follow-err sx sy at j bs (stops i) k e = e
 
 -- the same place, another size
 pub same-err : {X : Type 0} (s t : X → ℕ) (at k : ℕ) (R : Read X) → Err k ≡ found s at R → Err k ≡ found t at R
-same-err s t at k (got x n) e = let z : ◌≡◌ {A = ℕ} 0 1 = cc in absurd (omega arith)
+same-err s t at k (got x n) e = cc
 same-err s t at k (stops i) e = e
 
 pub same_size : {X : Type 0} (s t : X → ℕ) (at : ℕ) → ((x : X) → s x ≡ t x) → (R : Read X) → found s at R ≡ found t at R
@@ -78,7 +92,7 @@ more-ok s m at g (got x n) e =
     let p : g.end ≡ at + n = cc in
     let q : g.size ≡ s x = cc in
     cc
-more-ok s m at g (stops i) e = let z : ◌≡◌ {A = ℕ} 0 1 = cc in absurd (omega arith)
+more-ok s m at g (stops i) e = cc
 
 -- ---- one of some things
 nth_in : {X : Type 0} (xs : List X) (b : ℕ) → b < length xs → (x : X) × (nth xs b ≡ some x)
@@ -151,10 +165,10 @@ module _ {X : Type 0} (r : Bytes → Read X) where
 
   next-ok : (sx : X → ℕ) (at : ℕ) (f : Found) (R : Read X) (go : ℕ → Read (List X)) → Ok f ≡ found sx at R → (x : X) × (n : ℕ) × (f.size ≡ sx x) × (f.end ≡ at + n) × (next R go ≡ turn (λ xs. x ∷ xs) (go n))
   next-ok sx at f (got x n) go e = (x, n, (cc), (cc), refl)
-  next-ok sx at f (stops k) go e = let no' : ◌≡◌ {A = ℕ} 0 1 = cc in absurd (omega arith)
+  next-ok sx at f (stops k) go e = cc
 
   next-err : (sx : X → ℕ) (at k : ℕ) (R : Read X) (go : ℕ → Read (List X)) (sy : List X → ℕ) → Err k ≡ found sx at R → Err k ≡ found sy at (next R go)
-  next-err sx at k (got x n) go sy e = let no' : ◌≡◌ {A = ℕ} 0 1 = cc in absurd (omega arith)
+  next-err sx at k (got x n) go sy e = cc
   next-err sx at k (stops j) go sy e = e
 
   module _ (bs : Bytes) (at : ℕ) where
@@ -200,53 +214,93 @@ module _ (bs : Bytes) (at : ℕ) where
   unfolding read_pattern
   pattern-behind n e = same_size _ _ (at + 8) (λ ps. omega arith) _ ∙ sym (follow-got size_text at 8 bs n _ read_elements (word_ok at n (drop at bs) e))
 
-module _ (bs : Bytes) (at : ℕ) (s : List ℕ → ℕ) where
-  pub elements-none : Ok (record { end = at; size = s [] }) ≡ found s at (read_elements 0 (drop at bs))
-  elements-none = ap (λ m. Ok (record { end = m; size = s [] })) (omega arith)
+-- none is left
+pub elements-none : (bs : Bytes) (at n : ℕ) (s : List ℕ → ℕ) → n ≡ 0 → Ok (record { end = at; size = s [] }) ≡ found s at (read_elements n (drop at bs))
+elements-none bs at n s e = rw e (ap (λ m. Ok (record { end = m; size = s [] })) (omega arith))
 
-  pub elements-end : (n : ℕ) → 0 < n → length bs ≤ at → Err at ≡ found s at (read_elements n (drop at bs))
-  elements-end zero z h = absurd (omega arith)
-  elements-end (suc n) z h = rw (drop_all at bs h) (ap (λ m. Err m) (omega arith))
+-- the first is read as it is alone, and the others behind it
+one-element : (at m p : ℕ) (R : Read (List ℕ)) → found (λ ps. m + length ps) at (past 2 (turn (λ ps. p ∷ ps) R)) ≡ found (λ ps. m + 1 + length ps) (at + 2) R
+one-element at m p R = found-past _ at 2 _ ∙ found_turn _ (λ ps. p ∷ ps) (at + 2) R ∙ same_size _ _ (at + 2) (λ ps. omega arith) R
 
-  pub elements-high : (n : ℕ) → 0 < n → at < length bs → 1 < get_or bs at 0 → Err at ≡ found s at (read_elements n (drop at bs))
-  elements-high zero z h k = absurd (omega arith)
-  elements-high (suc n) z h k = rw (drop_more bs at 0 h) (go (get_or bs at 0) (drop (at + 1) bs) k)
-    where
-      go : (a : ℕ) (rest : Bytes) → 1 < a → Err at ≡ found s at (read_elements (suc n) (a ∷ rest))
-      go a [] k = rw (lt-leb a 1 k) (ap (λ m. Err m) (omega arith))
-      go a (b ∷ rest) k = rw (ne_eqb a 0 (λ e. omega arith), ne_eqb a 1 (λ e. omega arith)) (ap (λ m. Err m) (omega arith))
+pub record Behind (at m n end : ℕ) (bs : Bytes) : Type 0 where
+  pub ends : end ≡ at + 2
+  pub fits : 2 ≤ length bs
+  pub others : found (λ ps. m + length ps) at (read_elements (suc n) bs) ≡ found (λ ps. m + 1 + length ps) (at + 2) (read_elements n (drop 2 bs))
 
-  pub elements-cut : (n : ℕ) → 0 < n → at < length bs → get_or bs at 0 ≤ 1 → length bs ≤ at + 1 → Err (at + 1) ≡ found s at (read_elements n (drop at bs))
-  elements-cut zero z h k l = absurd (omega arith)
-  elements-cut (suc n) z h k l = rw (drop_more bs at 0 h, drop_all (at + 1) bs l, le-leb (get_or bs at 0) 1 k)
-
-  two-more : at + 1 < length bs → drop at bs ≡ get_or bs at 0 ∷ (get_or bs (at + 1) 0 ∷ drop (at + 2) bs)
-  two-more h =
-      let p : at < length bs = omega arith in
-      let q : at + 1 + 1 ≡ at + 2 = omega arith in
-      drop_more bs at 0 p ∙ ap (λ xs. get_or bs at 0 ∷ xs) (drop_more bs (at + 1) 0 h ∙ ap (λ m. get_or bs (at + 1) 0 ∷ drop m bs) q)
-
-  pub elements-low : (n : ℕ) → 0 < n → at + 1 < length bs → get_or bs at 0 ≤ 1 → 256 < get_or bs at 0 * 256 + get_or bs (at + 1) 0 → get_or bs (at + 1) 0 < 256 → Err (at + 1) ≡ found s at (read_elements n (drop at bs))
-  elements-low zero z h k l f = absurd (omega arith)
-  elements-low (suc n) z h k l f = rw (two-more h) (go (get_or bs at 0) (get_or bs (at + 1) 0) k l f)
-    where
-      go : (a b : ℕ) → a ≤ 1 → 256 < a * 256 + b → b < 256 → Err (at + 1) ≡ found s at (read_elements (suc n) (a ∷ (b ∷ drop (at + 2) bs)))
-      go zero b k l f = absurd (omega arith)
-      go (suc zero) zero k l f = absurd (omega arith)
-      go (suc zero) (suc b) k l f = rw (ne_eqb (suc b) 0 (λ e. omega arith))
-      go (suc (suc a)) b k l f = absurd (omega arith)
-
-pub elements-more : (bs : Bytes) (at n m : ℕ) → 0 < n → at + 1 < length bs → get_or bs at 0 ≤ 1 → get_or bs at 0 * 256 + get_or bs (at + 1) 0 ≤ 256 → found (λ ps. m + length ps) at (read_elements n (drop at bs)) ≡ found (λ ps. m + 1 + length ps) (at + 2) (read_elements (n - 1) (drop (at + 2) bs))
-elements-more bs at zero m z h k l = absurd (omega arith)
-elements-more bs at (suc n) m z h k l =
-    let p : suc n - 1 ≡ n = omega arith in
-    rw (p, two-more bs at (λ _. 0) h) (go (get_or bs at 0) (get_or bs (at + 1) 0) k l)
+elements-first : (at m n end : ℕ) (bs : Bytes) → Ok end ≡ ended at (read_elements 1 bs) → Behind at m n end bs
+elements-first at m n end [] e = cc
+elements-first at m n end (a ∷ []) e = go (leb a 1) e
   where
-    one : (b : ℕ) (R : Read (List ℕ)) → found (λ ps. m + length ps) at (past 2 (turn (λ ps. b ∷ ps) R)) ≡ found (λ ps. m + 1 + length ps) (at + 2) R
-    one b R = found-past _ at 2 _ ∙ found_turn _ (λ ps. b ∷ ps) (at + 2) R ∙ same_size _ _ (at + 2) (λ ps. omega arith) R
+    go : (v : Bool) → Ok end ≡ ended {X = List ℕ} at (cond v (stops 1) (stops 0)) → Behind at m n end (a ∷ [])
+    go true e = cc
+    go false e = cc
+elements-first at m n end (a ∷ (b ∷ bs)) e = go (eqb a 0) (eqb a 1) (eqb b 0) refl refl refl e
+  where
+    go : (x y z : Bool) → eqb a 0 ≡ x → eqb a 1 ≡ y → eqb b 0 ≡ z →
+        Ok end ≡ ended at (cond x (past 2 (turn (λ ps. b ∷ ps) (got [] 0))) (cond y (cond z (past 2 (turn (λ ps. 256 ∷ ps) (got [] 0))) (stops 1)) (stops 0))) → Behind at m n end (a ∷ (b ∷ bs))
+    go true y z p q r e = record { ends = cc; fits = omega arith; others = rw p (one-element at m b (read_elements n bs)) }
+    go false true true p q r e = record { ends = cc; fits = omega arith; others = rw (p, q, r) (one-element at m 256 (read_elements n bs)) }
+    go false true false p q r e = cc
+    go false false z p q r e = cc
 
-    go : (a b : ℕ) → a ≤ 1 → a * 256 + b ≤ 256 → found (λ ps. m + length ps) at (read_elements (suc n) (a ∷ (b ∷ drop (at + 2) bs))) ≡ found (λ ps. m + 1 + length ps) (at + 2) (read_elements n (drop (at + 2) bs))
-    go zero b k l = one b _
-    go (suc zero) zero k l = one 256 _
-    go (suc zero) (suc b) k l = absurd (omega arith)
-    go (suc (suc a)) b k l = absurd (omega arith)
+elements-not : (at n k : ℕ) (s : List ℕ → ℕ) (bs : Bytes) → Err k ≡ ended at (read_elements 1 bs) → Err k ≡ found s at (read_elements (suc n) bs)
+elements-not at n k s [] e = let q : k ≡ at + 0 = cc in ap (λ m. Err m) q
+elements-not at n k s (a ∷ []) e = go (leb a 1) e
+  where
+    go : (v : Bool) → Err k ≡ ended {X = List ℕ} at (cond v (stops 1) (stops 0)) → Err k ≡ found s at (cond v (stops 1) (stops 0))
+    go true e = let q : k ≡ at + 1 = cc in ap (λ m. Err m) q
+    go false e = let q : k ≡ at + 0 = cc in ap (λ m. Err m) q
+elements-not at n k s (a ∷ (b ∷ bs)) e = go (eqb a 0) (eqb a 1) (eqb b 0) e
+  where
+    go : (x y z : Bool) → Err k ≡ ended at (cond x (past 2 (turn (λ ps. b ∷ ps) (got [] 0))) (cond y (cond z (past 2 (turn (λ ps. 256 ∷ ps) (got [] 0))) (stops 1)) (stops 0))) →
+        Err k ≡ found s at (cond x (past 2 (turn (λ ps. b ∷ ps) (read_elements n bs))) (cond y (cond z (past 2 (turn (λ ps. 256 ∷ ps) (read_elements n bs))) (stops 1)) (stops 0)))
+    go true y z e = cc
+    go false true true e = cc
+    go false true false e = let q : k ≡ at + 1 = cc in ap (λ m. Err m) q
+    go false false z e = let q : k ≡ at + 0 = cc in ap (λ m. Err m) q
+
+-- and it stops within its two bytes
+element-place : (at k : ℕ) (bs : Bytes) → Err k ≡ ended at (read_elements 1 bs) → k ≤ at + length bs
+element-place at k [] e = let q : k ≡ at + 0 = cc in omega (arith, q)
+element-place at k (a ∷ []) e = go (leb a 1) e
+  where
+    go : (v : Bool) → Err k ≡ ended {X = List ℕ} at (cond v (stops 1) (stops 0)) → k ≤ at + 1
+    go true e = let q : k ≡ at + 1 = cc in omega (arith, q)
+    go false e = let q : k ≡ at + 0 = cc in omega (arith, q)
+element-place at k (a ∷ (b ∷ bs)) e = go (eqb a 0) (eqb a 1) (eqb b 0) e
+  where
+    go : (x y z : Bool) → Err k ≡ ended at (cond x (past 2 (turn (λ ps. b ∷ ps) (got [] 0))) (cond y (cond z (past 2 (turn (λ ps. 256 ∷ ps) (got [] 0))) (stops 1)) (stops 0))) → k ≤ at + suc (suc (length bs))
+    go true y z e = cc
+    go false true true e = cc
+    go false true false e = let q : k ≡ at + 1 = cc in omega (arith, q)
+    go false false z e = let q : k ≡ at + 0 = cc in omega (arith, q)
+
+module _ (bs : Bytes) (at n : ℕ) (some_left : 0 < n) where
+  pub elements-more : (m end : ℕ) → at ≤ length bs → Ok end ≡ ended at (read_elements 1 (drop at bs)) →
+      (end ≡ at + 2) × (end ≤ length bs) × (found (λ ps. m + length ps) at (read_elements n (drop at bs)) ≡ found (λ ps. m + 1 + length ps) end (read_elements (n - 1) (drop end bs)))
+  elements-more m end h e =
+      let w = elements-first at m (n - 1) end (drop at bs) e in
+      let p : n ≡ suc (n - 1) = omega arith in (
+        w.ends,
+        omega (arith, w.ends, w.fits, length-drop at bs),
+        ap (λ k. found (λ ps. m + length ps) at (read_elements k (drop at bs))) p ∙ w.others
+            ∙ ap (λ xs. found (λ ps. m + 1 + length ps) (at + 2) (read_elements (n - 1) xs)) (drop-drop 2 at bs)
+            ∙ ap (λ k. found (λ ps. m + 1 + length ps) k (read_elements (n - 1) (drop k bs))) (sym w.ends),
+      )
+
+  pub elements-within : (k : ℕ) → at ≤ length bs → Err k ≡ ended at (read_elements 1 (drop at bs)) → k ≤ length bs
+  elements-within k h e = omega (arith, element-place at k (drop at bs) e, length-drop at bs)
+
+  pub elements-stop : (s : List ℕ → ℕ) (k : ℕ) → Err k ≡ ended at (read_elements 1 (drop at bs)) → Err k ≡ found s at (read_elements n (drop at bs))
+  elements-stop s k e =
+      let p : suc (n - 1) ≡ n = omega arith in
+      elements-not at (n - 1) k s (drop at bs) e ∙ ap (λ j. found s at (read_elements j (drop at bs))) p
+
+-- ---- a number ends behind its eight bytes
+pub number-end : (at : ℕ) (bs : Bytes) (f : Found) → Ok f ≡ found (λ _. 0) at (read_word bs) → f.end ≡ at + 8
+unfolding read_word
+number-end at bs f e = go (leb 8 (length bs)) e
+  where
+    go : (b : Bool) → Ok f ≡ found (λ _. 0) at (cond b (got (big_endian bs) 8) (stops (length bs))) → f.end ≡ at + 8
+    go true q = cc
+    go false q = cc

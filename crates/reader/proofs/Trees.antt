@@ -1,41 +1,15 @@
 -- A tree is read by its form, and then field by field.
-use Rattle.std.proofs.Common.{◌≡◌, ℕ, zero, suc, ◌+◌, ◌-◌, ◌<◌, ◌≤◌, Bool, true, false, ◌&&◌, eqb, leb, List, [], ◌∷◌, map, length, get_or, drop, Ok, Err, Result, sym, refl, ap, ◌∙◌, subst, arith}
+use Rattle.std.proofs.Common.{◌≡◌, ℕ, zero, suc, ◌+◌, ◌<◌, ◌≤◌, Bool, true, false, ◌&&◌, eqb, leb, List, [], ◌∷◌, map, length, get_or, sym, refl, ap, ◌∙◌, subst, arith}
 use mathlib.Core.Option.{some, none}
 use Rattle.std.proofs.lemmas.Bool.{leb-true}
 use Rattle.spec.specs.Basics.{all}
 use Rattle.spec.specs.Bytes.{Bytes}
 use Rattle.reader.specs.declared.grammar.Field.{Field as CodeField}
-use Rattle.reader.specs.declared.scan.Found.{Found}
-use Rattle.reader.specs.declared.scan.Opened.{Opened}
-use Rattle.wire.specs.Read.{Read, got, stops, turn, nth}
-use Rattle.wire.specs.Grammar.{Kind, value, expr, type, scope, action_scope, uid, attrs, record_type, condition, entity, entity_entry, action_entry, request, Tag, Fields, Reader, read_tag_of, read_tag, read_field, read_fields, read_node, fields, make, value_tags, inner_value, value_fields, expr_tags, inner_expr, expr_fields, type_tags, inner_type, type_fields, scope_tags, scope_fields, action_scope_tags, action_scope_fields}
-use Rattle.wire.specs.Sizes.{size_tree, size_field, size_fields}
+use Rattle.wire.specs.Read.{Read, got, stops, nth}
+use Rattle.wire.specs.Grammar.{Kind, value, expr, type, scope, action_scope, uid, attrs, record_type, condition, entity, entity_entry, action_entry, request, Tag, Fields, read_tag_of, read_tag, fields, value_tags, inner_value, value_fields, expr_tags, inner_expr, expr_fields, type_tags, inner_type, type_fields, scope_tags, scope_fields, action_scope_tags, action_scope_fields}
 use Rattle.reader.specs.Code.{field_of, fields_of, is_part, is_small, parts, smalls, only_form, by_tag, forms_in}
-use Rattle.reader.specs.Found.{found, Opens}
-use Rattle.wire.proofs.Forms.{size-make}
-use Rattle.reader.proofs.Along.{found_turn, follow-got, follow-stops, follow-ok, follow-err, same-err, same_size, more-ok}
 
--- ---- field by field: what is left of the fields, behind what has the size m
-module _ (r : Reader) (bs : Bytes) where
-  abbrev pub left : ℕ → List CodeField → ℕ → Result Found ℕ
-  left m fs at = found (λ c. m + size_fields (fields_of fs) c) at (read_fields r (fields_of fs) (drop at bs))
-
-  pub left-none : (m at : ℕ) → Ok (record { end = at; size = m }) ≡ left m [] at
-  left-none m at =
-      let p : at ≡ at + 0 = omega arith in
-      let q : m ≡ m + 0 = omega arith in
-      cc
-
-  pub left-ok : (m at : ℕ) (f : CodeField) (fs : List CodeField) (x : Found) → Ok x ≡ found (size_field (field_of f)) at (read_field r (field_of f) (drop at bs)) → left m (f ∷ fs) at ≡ left (m + x.size) fs x.end
-  left-ok m at f [] x e = sym (more-ok (size_field (field_of f)) m at x _ e) ∙ left-none (m + x.size) x.end
-  left-ok m at f (g ∷ fs) x e =
-      let w = follow-ok (size_field (field_of f)) (λ c. m + size_fields (fields_of (f ∷ (g ∷ fs))) c) at bs x _ (λ y rest. turn (λ z. (y, z)) (read_fields r (fields_of (g ∷ fs)) rest)) e in
-      w.2 ∙ found_turn _ (λ z. (w.0, z)) x.end _ ∙ same_size _ _ x.end (λ c. omega (arith, w.1)) _
-
-  pub left-err : (m at : ℕ) (f : CodeField) (fs : List CodeField) (k : ℕ) → Err k ≡ found (size_field (field_of f)) at (read_field r (field_of f) (drop at bs)) → Err k ≡ left m (f ∷ fs) at
-  left-err m at f [] k e = same-err (size_field (field_of f)) _ at k _ e
-  left-err m at f (g ∷ fs) k e = follow-err (size_field (field_of f)) _ at k bs _ _ e
-
+-- ---- what fields take and leave of their bytes
 pub parts_more : (f : CodeField) (fs : List CodeField) → parts (fields_of (f ∷ fs)) ≡ is_part (field_of f) + parts (fields_of fs)
 parts_more f [] = omega arith
 parts_more f (g ∷ fs) = refl
@@ -111,22 +85,22 @@ tagged expr t e = let q : map (λ g. (inner_expr g, expr_fields g)) expr_tags �
 tagged type t e = let q : map (λ g. (inner_type g, type_fields g)) type_tags ≡ t = cc in subst (Tagged (read_tag type) (fields type)) q (tagged-rows type_tags inner_type type_fields refl)
 tagged scope t e = let q : map (λ g. (false, scope_fields g)) scope_tags ≡ t = cc in subst (Tagged (read_tag scope) (fields scope)) q (tagged-rows scope_tags (λ _. false) scope_fields refl)
 tagged action_scope t e = let q : map (λ g. (false, action_scope_fields g)) action_scope_tags ≡ t = cc in subst (Tagged (read_tag action_scope) (fields action_scope)) q (tagged-rows action_scope_tags (λ _. false) action_scope_fields refl)
-tagged uid t e = let z : ◌≡◌ {A = ℕ} 0 1 = cc in absurd (omega arith)
-tagged attrs t e = let z : ◌≡◌ {A = ℕ} 0 1 = cc in absurd (omega arith)
-tagged record_type t e = let z : ◌≡◌ {A = ℕ} 0 1 = cc in absurd (omega arith)
-tagged condition t e = let z : ◌≡◌ {A = ℕ} 0 1 = cc in absurd (omega arith)
-tagged entity t e = let z : ◌≡◌ {A = ℕ} 0 1 = cc in absurd (omega arith)
-tagged entity_entry t e = let z : ◌≡◌ {A = ℕ} 0 1 = cc in absurd (omega arith)
-tagged action_entry t e = let z : ◌≡◌ {A = ℕ} 0 1 = cc in absurd (omega arith)
-tagged request t e = let z : ◌≡◌ {A = ℕ} 0 1 = cc in absurd (omega arith)
+tagged uid t e = cc
+tagged attrs t e = cc
+tagged record_type t e = cc
+tagged condition t e = cc
+tagged entity t e = cc
+tagged entity_entry t e = cc
+tagged action_entry t e = cc
+tagged request t e = cc
 
 -- a kind of one form
 pub untagged : (k : Kind) (h : ℕ) (bs : Bytes) (fs : Fields) → only_form fs ≡ forms_in k → (g : Tag k) × (read_tag k h bs ≡ got g 0) × (fs ≡ fields k g) × (parts fs ≤ smalls fs)
-untagged value h bs fs e = let z : ◌≡◌ {A = ℕ} 0 1 = cc in absurd (omega arith)
-untagged expr h bs fs e = let z : ◌≡◌ {A = ℕ} 0 1 = cc in absurd (omega arith)
-untagged type h bs fs e = let z : ◌≡◌ {A = ℕ} 0 1 = cc in absurd (omega arith)
-untagged scope h bs fs e = let z : ◌≡◌ {A = ℕ} 0 1 = cc in absurd (omega arith)
-untagged action_scope h bs fs e = let z : ◌≡◌ {A = ℕ} 0 1 = cc in absurd (omega arith)
+untagged value h bs fs e = cc
+untagged expr h bs fs e = cc
+untagged type h bs fs e = cc
+untagged scope h bs fs e = cc
+untagged action_scope h bs fs e = cc
 untagged uid h bs fs e = let q : fs ≡ fields uid tt = cc in (tt, refl, q, rw q (omega arith))
 untagged attrs h bs fs e = let q : fs ≡ fields attrs tt = cc in (tt, refl, q, rw q (omega arith))
 untagged record_type h bs fs e = let q : fs ≡ fields record_type tt = cc in (tt, refl, q, rw q (omega arith))
@@ -135,35 +109,3 @@ untagged entity h bs fs e = let q : fs ≡ fields entity tt = cc in (tt, refl, q
 untagged entity_entry h bs fs e = let q : fs ≡ fields entity_entry tt = cc in (tt, refl, q, rw q (omega arith))
 untagged action_entry h bs fs e = let q : fs ≡ fields action_entry tt = cc in (tt, refl, q, rw q (omega arith))
 untagged request h bs fs e = let q : fs ≡ fields request tt = cc in (tt, refl, q, rw q (omega arith))
-
--- ---- a tree
-node_ok : (k : Kind) (bs : Bytes) (at start n h : ℕ) (g : Tag k) (fs : Fields) → 0 < h → read_tag k (h - 1) (drop at bs) ≡ got g n → start ≡ at + n → fs ≡ fields k g →
-    found (size_fields fs) start (read_fields (read_node (h - 1)) fs (drop start bs)) ≡ found (size_tree k) at (read_node h k (drop at bs))
-unfolding read_node
-node_ok k bs at start n zero g fs l e s q = absurd (omega arith)
-node_ok k bs at start n (suc h) g fs l e s q =
-    let p : suc h - 1 ≡ h = omega arith in
-    let P : ℕ → Type 0 = λ m. read_tag k m (drop at bs) ≡ got g n → found (size_fields fs) start (read_fields (read_node m) fs (drop start bs)) ≡ found (size_tree k) at (read_node (suc h) k (drop at bs)) in
-    subst P (sym p) (λ e'.
-    ap (λ fs'. found (size_fields fs') start (read_fields (read_node h) fs' (drop start bs))) q
-    ∙ ap (λ m. found (size_fields (fields k g)) m (read_fields (read_node h) (fields k g) (drop m bs))) s
-    ∙ same_size _ _ (at + n) (λ c. sym (size-make k g c)) _
-    ∙ sym (found_turn (size_tree k) (make k g) (at + n) _)
-    ∙ sym (follow-got (size_tree k) at n bs g _ (λ g' rest. turn (make k g') (read_fields (read_node h) (fields k g') rest)) e')) e
-
-pub node-err : (k : Kind) (bs : Bytes) (at n h j : ℕ) → 0 < h → read_tag k (h - 1) (drop at bs) ≡ stops n → j ≡ at + n → Err j ≡ found (size_tree k) at (read_node h k (drop at bs))
-unfolding read_node
-node-err k bs at n zero j l e s = absurd (omega arith)
-node-err k bs at n (suc h) j l e s =
-    let p : suc h - 1 ≡ h = omega arith in
-    let e' : read_tag k h (drop at bs) ≡ stops n = ap (λ m. read_tag k m (drop at bs)) (sym p) ∙ e in
-    ap (λ m. Err m) s ∙ sym (follow-stops (size_tree k) at n bs _ (λ g' rest. turn (make k g') (read_fields (read_node h) (fields k g') rest)) e')
-
-pub node-opened : (k : Kind) (bs : Bytes) (at h : ℕ) (o : Opened) (x : Result Found ℕ) → 0 < h → Opens k at (read_tag k (h - 1) (drop at bs)) (Ok o) →
-    x ≡ found (size_fields (fields_of o.fields.now)) o.start (read_fields (read_node (h - 1)) (fields_of o.fields.now) (drop o.start bs)) → x ≡ found (size_tree k) at (read_node h k (drop at bs))
-node-opened k bs at h o x l w e = e ∙ node_ok k bs at o.start w.1 h w.0 (fields_of o.fields.now) l w.2 w.3 w.4
-
-pub node-low : (k : Kind) (bs : Bytes) (at h : ℕ) → h ≡ 0 → Err at ≡ found (size_tree k) at (read_node h k bs)
-unfolding read_node
-node-low k bs at zero e = ap (λ m. Err m) (omega arith)
-node-low k bs at (suc h) e = absurd (omega arith)

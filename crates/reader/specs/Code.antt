@@ -1,5 +1,6 @@
 -- What the grammar's tables in the code stand for. Assumes nothing: these are definitions.
-use Rattle.std.specs.Prelude.{ℕ, ◌+◌, Bool, false, List, [], ◌∷◌, map}
+use Rattle.std.specs.Prelude.{◌≡◌, ℕ, ◌+◌, Bool, false, List, [], ◌∷◌, map, Ok, Err, Result}
+use Rattle.std.proofs.Math.Option.{some, none}
 use Rattle.reader.specs.declared.grammar.Small.{Small as CodeSmall}
 use Rattle.reader.specs.declared.grammar.Small.TheVariants.{Truth, Variable, Operator, BoolType, Effect, ConditionKind}
 use Rattle.reader.specs.declared.grammar.Kind.{Kind as CodeKind}
@@ -11,7 +12,12 @@ use Rattle.reader.specs.declared.grammar.Field.TheVariants.{Part, Small as Small
 use Rattle.reader.specs.declared.grammar.Form.{Form}
 use Rattle.reader.specs.declared.grammar.Forms.{Forms}
 use Rattle.reader.specs.declared.grammar.Forms.TheVariants.{Only, ByTag}
-use Rattle.wire.specs.Grammar.{Small, truth, variable, operator, bool_type, effect, condition_kind, Kind, value, expr, type, scope, action_scope, uid, attrs, record_type, condition, entity, entity_entry, action_entry, request, Field, part, small, word, text, pattern, node, list, Fields, no, one, more, two, three, value_tags, inner_value, value_fields, expr_tags, inner_expr, expr_fields, type_tags, inner_type, type_fields, scope_tags, scope_fields, action_scope_tags, action_scope_fields, fields}
+use Rattle.reader.specs.declared.grammar.CallKind.{CallKind}
+use Rattle.reader.specs.declared.grammar.CallKind.TheVariants.{SetSchema, PutPolicy, RemovePolicy, PutEntity, RemoveEntity, ValidatePolicies, Authorize}
+use Rattle.reader.specs.declared.grammar.NoSuchCall.{NoSuchCall}
+use Rattle.wire.specs.Read.{nth}
+use Rattle.wire.specs.Tags.{CallTag, set_schema_tag, put_policy_tag, remove_policy_tag, put_entity_tag, remove_entity_tag, validate_tag, authorize_tag}
+use Rattle.wire.specs.Grammar.{Small, truth, variable, operator, bool_type, effect, condition_kind, Kind, value, expr, type, scope, action_scope, uid, attrs, record_type, condition, entity, entity_entry, action_entry, request, Field, part, small, word, text, pattern, node, list, Fields, no, one, more, two, three, value_tags, inner_value, value_fields, expr_tags, inner_expr, expr_fields, type_tags, inner_type, type_fields, scope_tags, scope_fields, action_scope_tags, action_scope_fields, call_tags, fields}
 
 abbrev pub small_of : CodeSmall → Small
 small_of Truth = truth
@@ -92,6 +98,30 @@ forms_in entity = only_form (fields entity tt)
 forms_in entity_entry = only_form (fields entity_entry tt)
 forms_in action_entry = only_form (fields action_entry tt)
 forms_in request = only_form (fields request tt)
+
+-- ---- kinds of calls: their tags in the grammar, and the numbers that stand for them
+abbrev pub call_of : CallKind → CallTag
+call_of SetSchema = set_schema_tag
+call_of PutPolicy = put_policy_tag
+call_of RemovePolicy = remove_policy_tag
+call_of PutEntity = put_entity_tag
+call_of RemoveEntity = remove_entity_tag
+call_of ValidatePolicies = validate_tag
+call_of Authorize = authorize_tag
+
+abbrev pub number_of : CallKind → ℕ
+number_of SetSchema = 0
+number_of PutPolicy = 1
+number_of RemovePolicy = 2
+number_of PutEntity = 3
+number_of RemoveEntity = 4
+number_of ValidatePolicies = 5
+number_of Authorize = 6
+
+-- of which call a byte tells, if of one
+abbrev pub Tells : ℕ → Result CallKind NoSuchCall → Type 0
+Tells b (Ok k) = nth call_tags b ≡ some (call_of k)
+Tells b (Err e) = nth call_tags b ≡ none
 
 -- ---- what a field adds to the size beyond its bytes, and what it leaves of them
 abbrev pub is_part : Field → ℕ

@@ -1,6 +1,7 @@
 -- What the code answers of what is read at a place. Assumes nothing: these are definitions.
 use Rattle.std.specs.Prelude.{◌≡◌, ℕ, ◌+◌, ◌≤◌, Ok, Err, Result}
-use Rattle.spec.specs.Calls.{Call, set_schema, put_policy, remove_policy, put_entity, remove_entity, validate_policies, authorize, malformed, call_number}
+use Rattle.spec.specs.Calls.{Call, set_schema, put_policy, remove_policy, put_entity, remove_entity, validate_policies, authorize, malformed}
+use Rattle.reader.specs.declared.grammar.CallKind.TheVariants.{SetSchema, PutPolicy, RemovePolicy, PutEntity, RemoveEntity, ValidatePolicies, Authorize}
 use Rattle.reader.specs.declared.scan.Found.{Found}
 use Rattle.reader.specs.declared.scan.Opened.{Opened}
 use Rattle.reader.specs.declared.scan.Scanned.{Scanned}
@@ -32,6 +33,11 @@ abbrev pub WithinWord : ℕ → ℕ → Result ℕ ℕ → Type 0
 WithinWord at len (Ok n) = at + 8 ≤ len
 WithinWord at len (Err k) = k ≤ len
 
+-- where it ends, or ceases to be one
+abbrev pub ended : {X : Type 0} → ℕ → Read X → Result ℕ ℕ
+ended at (got x n) = Ok (at + n)
+ended at (stops k) = Err (at + k)
+
 -- ---- the form of a tree is read: which fields follow where
 abbrev pub Opens : (k : Kind) → ℕ → Read (Tag k) → Result Opened ℕ → Type 0
 Opens k at R (Ok o) = (g : Tag k) × (n : ℕ) × (R ≡ got g n) × (o.start ≡ at + n) × (fields_of o.fields.now ≡ fields k g)
@@ -41,13 +47,13 @@ abbrev pub WithinOpened : ℕ → ℕ → Result Opened ℕ → Type 0
 WithinOpened at len (Ok o) = (at ≤ o.start) × (o.start ≤ len) × (at + parts (fields_of o.fields.now) ≤ o.start + smalls (fields_of o.fields.now))
 WithinOpened at len (Err k) = k ≤ len
 
--- ---- a whole call: its number and the size of what it carries, or where it ceases to be one
+-- ---- a whole call: its kind and the size of what it carries, or where it ceases to be one
 abbrev pub scanned : Call → Result Scanned ℕ
-scanned (set_schema s) = Ok (record { tag = call_number (set_schema s); size = size_call (set_schema s) })
-scanned (put_policy p) = Ok (record { tag = call_number (put_policy p); size = size_call (put_policy p) })
-scanned (remove_policy t) = Ok (record { tag = call_number (remove_policy t); size = size_call (remove_policy t) })
-scanned (put_entity e) = Ok (record { tag = call_number (put_entity e); size = size_call (put_entity e) })
-scanned (remove_entity u) = Ok (record { tag = call_number (remove_entity u); size = size_call (remove_entity u) })
-scanned validate_policies = Ok (record { tag = call_number validate_policies; size = size_call validate_policies })
-scanned (authorize q) = Ok (record { tag = call_number (authorize q); size = size_call (authorize q) })
+scanned (set_schema s) = Ok (record { call = SetSchema; size = size_call (set_schema s) })
+scanned (put_policy p) = Ok (record { call = PutPolicy; size = size_call (put_policy p) })
+scanned (remove_policy t) = Ok (record { call = RemovePolicy; size = size_call (remove_policy t) })
+scanned (put_entity e) = Ok (record { call = PutEntity; size = size_call (put_entity e) })
+scanned (remove_entity u) = Ok (record { call = RemoveEntity; size = size_call (remove_entity u) })
+scanned validate_policies = Ok (record { call = ValidatePolicies; size = size_call validate_policies })
+scanned (authorize q) = Ok (record { call = Authorize; size = size_call (authorize q) })
 scanned (malformed k) = Err k

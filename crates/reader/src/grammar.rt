@@ -1,9 +1,11 @@
 // The grammar of calls as tables: of which fields each form of each kind of tree is made.
-ghost use Rattle.std.specs.Prelude.{◌≡◌, false, map, length};
-ghost use Rattle.wire.specs.Grammar.{choices, value_tags, inner_value, value_fields, expr_tags, inner_expr, expr_fields, type_tags, inner_type, type_fields, scope_tags, scope_fields, action_scope_tags, action_scope_fields, call_tags, call_fields};
-ghost use Rattle.reader.specs.Code.{small_of, kind_of, items_of, fields_of, table_of, forms_of, forms_in, parts};
+ghost use Rattle.std.specs.Prelude.{◌≡◌, false, map, length, Some, codes};
+ghost use Rattle.wire.specs.Grammar.{choices, value_tags, inner_value, value_fields, expr_tags, inner_expr, expr_fields, type_tags, inner_type, type_fields, scope_tags, scope_fields, action_scope_tags, action_scope_fields, call_fields};
+ghost use Rattle.reader.specs.Code.{small_of, kind_of, items_of, fields_of, table_of, forms_of, forms_in, parts, call_of, number_of, Tells};
 
 use Field::{List, Node, Part, Pattern, Text, Word};
+use std::error::Error;
+use std::fmt;
 
 // What a byte tells apart.
 #[derive(Clone, Copy)]
@@ -240,24 +242,79 @@ pub fn forms_of(kind: Kind) -> Forms
     }
 }
 
-// What a call carries, by its number.
-pub fn calls() -> &'static [Form]
-    ensures { table_of result.now ≡ map (λ g. (false, call_fields g)) call_tags }
-{
-    &[
-        leaf!(List(Items::EntityEntries), List(Items::ActionEntries)),
-        leaf!(
-            Text,
-            Field::Small(Small::Effect),
-            SCOPE,
-            Node(Kind::ActionScope),
-            SCOPE,
-            List(Items::Conditions)
-        ),
-        leaf!(Text),
-        leaf!(Node(Kind::Entity)),
-        leaf!(UID),
-        leaf!(),
-        leaf!(Node(Kind::Request)),
-    ]
+// What a call does, in the order of the bytes that stand for it.
+#[derive(Clone, Copy, Debug, PartialEq, Eq)]
+pub enum CallKind {
+    SetSchema,
+    PutPolicy,
+    RemovePolicy,
+    PutEntity,
+    RemoveEntity,
+    ValidatePolicies,
+    Authorize,
+}
+
+// The byte stands for no call.
+#[derive(Clone, Copy, Debug, PartialEq, Eq)]
+pub struct NoSuchCall;
+
+impl fmt::Display for NoSuchCall {
+    ghost output = { λ _. Some (codes "the byte stands for no call") };
+
+    fn fmt<W: fmt::Write>(&self, f: &mut fmt::Formatter<W>) -> fmt::Result {
+        f.write_str("the byte stands for no call")
+    }
+}
+
+impl Error for NoSuchCall {}
+
+impl TryFrom<u8> for CallKind {
+    type Error = NoSuchCall;
+
+    ghost try_from_gives = { Tells };
+
+    fn try_from(number: u8) -> Result<CallKind, NoSuchCall> {
+        match number {
+            0 => Ok(CallKind::SetSchema),
+            1 => Ok(CallKind::PutPolicy),
+            2 => Ok(CallKind::RemovePolicy),
+            3 => Ok(CallKind::PutEntity),
+            4 => Ok(CallKind::RemoveEntity),
+            5 => Ok(CallKind::ValidatePolicies),
+            6 => Ok(CallKind::Authorize),
+            _ => Err(NoSuchCall),
+        }
+    }
+}
+
+impl From<CallKind> for u8 {
+    ghost from_gives = { λ call number. number ≡ number_of call };
+
+    fn from(call: CallKind) -> u8 {
+        call as u8
+    }
+}
+
+impl CallKind {
+    // What stands behind the call's first byte.
+    pub fn fields(self) -> &'static [Field]
+        ensures { fields_of result.now ≡ call_fields (call_of self) }
+    {
+        match self {
+            CallKind::SetSchema => &[List(Items::EntityEntries), List(Items::ActionEntries)],
+            CallKind::PutPolicy => &[
+                Text,
+                Field::Small(Small::Effect),
+                SCOPE,
+                Node(Kind::ActionScope),
+                SCOPE,
+                List(Items::Conditions),
+            ],
+            CallKind::RemovePolicy => &[Text],
+            CallKind::PutEntity => &[Node(Kind::Entity)],
+            CallKind::RemoveEntity => &[UID],
+            CallKind::ValidatePolicies => &[],
+            CallKind::Authorize => &[Node(Kind::Request)],
+        }
+    }
 }

@@ -1,19 +1,30 @@
 // Finds where what the bytes say ends and how large it is, and copies nothing.
-// Every function takes all bytes and a place among them, and an error is the place of the first byte that can't stand there.
+// Every function takes all bytes and a place among them, and an error is the place of the first byte that can't stand there. The two make no struct: the
+// bytes stay while the place moves on, so that each step would take it apart. An error is a place in the whole, so what is left alone would not do; and it
+// is a bare number, since the definitions of reading answer with that number.
 ghost use Rattle.std.specs.Prelude.{◌≡◌, ◌+◌, ◌≤◌, length, drop};
-ghost use Rattle.spec.specs.Calls.{size_text, sum_of};
-ghost use Rattle.wire.specs.Read.{big_endian, read_word, read_text, read_pattern, read_one, read_list};
-ghost use Rattle.wire.specs.Grammar.{choices, read_tag, read_field, read_fields, read_node, decode};
-ghost use Rattle.wire.specs.Sizes.{size_tree, size_field, size_fields};
-ghost use Rattle.reader.specs.Code.{small_of, kind_of, field_of, fields_of, is_part, is_small, parts, smalls};
-ghost use Rattle.reader.specs.Found.{found, taken, WithinBy, Within, WithinWord, Opens, WithinOpened, scanned};
+ghost use Rattle.spec.specs.Calls.{size_text};
+ghost use Rattle.wire.specs.Read.{read_word, read_text, read_elements, read_pattern, read_one};
+ghost use Rattle.wire.specs.Grammar.{choices, read_tag, read_fields, read_node, decode};
+ghost use Rattle.wire.specs.Sizes.{size_tree, size_fields};
+ghost use Rattle.reader.specs.Code.{small_of, kind_of, fields_of, parts, smalls};
+ghost use Rattle.reader.specs.Found.{found, taken, WithinBy, Within, WithinWord, Opens, WithinOpened, ended, scanned};
 
-use crate::grammar::{Field, Forms, Kind, Small, calls, choices_of, forms_of, item_fields};
+use crate::count;
+use crate::count::Size;
+use crate::grammar::{CallKind, Field, Forms, Kind, Small, choices_of, forms_of};
+use words::word_at;
 
 // What stands in a call is of at most this height: an expression in a condition is of depth 64.
-const CALL_HEIGHT: usize = 66;
+pub const CALL_HEIGHT: usize = 66;
 
-#[derive(Clone, Copy)]
+// And so are the parts of an entity, a request or an entry of a schema of at most this one.
+pub const PART_HEIGHT: usize = CALL_HEIGHT - 1;
+
+// What a call carries stands behind its first byte.
+pub const CALL_START: usize = 1;
+
+#[derive(Clone, Copy, Debug, PartialEq, Eq)]
 pub struct Found {
     pub end: usize,
     pub size: usize,
@@ -26,27 +37,10 @@ pub struct Opened {
     pub fields: &'static [Field],
 }
 
-#[derive(Clone, Copy)]
+#[derive(Clone, Copy, Debug, PartialEq, Eq)]
 pub struct Scanned {
-    pub tag: u8,
+    pub call: CallKind,
     pub size: usize,
-}
-
-// The number of eight bytes.
-fn eight(bytes: &[u8], at: usize) -> u64
-    requires { at + 8 ≤ length bytes.now }
-    ensures { result ≡ big_endian (drop at bytes.now) }
-{
-    u64::from_be_bytes([
-        bytes[at],
-        bytes[at + 1],
-        bytes[at + 2],
-        bytes[at + 3],
-        bytes[at + 4],
-        bytes[at + 5],
-        bytes[at + 6],
-        bytes[at + 7],
-    ])
 }
 
 pub fn word(bytes: &[u8], at: usize) -> Result<u64, usize>
@@ -54,10 +48,7 @@ pub fn word(bytes: &[u8], at: usize) -> Result<u64, usize>
     ensures reads { result ≡ taken at (read_word (drop at bytes.now)) }
     ensures within { WithinWord at (length bytes.now) result }
 {
-    if bytes.len() - at < 8 {
-        return Err(bytes.len());
-    }
-    Ok(eight(bytes, at))
+    word_at(bytes, at).ok_or(bytes.len())
 }
 
 // A number of eight bytes adds nothing to the size.
@@ -66,7 +57,7 @@ pub fn number(bytes: &[u8], at: usize) -> Result<Found, usize>
     ensures reads { result ≡ found (λ _. 0) at (read_word (drop at bytes.now)) }
     ensures within { Within at (length bytes.now) result }
 {
-    let _n = word(bytes, at)?;
+    word(bytes, at)?;
     Ok(Found {
         end: at + 8,
         size: 0,
@@ -79,16 +70,13 @@ pub fn choice(bytes: &[u8], at: usize, small: Small) -> Result<Found, usize>
     ensures reads { result ≡ found (λ _. 0) at (read_one (choices (small_of small)) (drop at bytes.now)) }
     ensures within { WithinBy 0 1 at (length bytes.now) result }
 {
-    if at >= bytes.len() {
-        return Err(at);
+    match bytes.get(at) {
+        Some(byte) if *byte < choices_of(small) => Ok(Found {
+            end: at + 1,
+            size: 0,
+        }),
+        _ => Err(at),
     }
-    if bytes[at] >= choices_of(small) {
-        return Err(at);
-    }
-    Ok(Found {
-        end: at + 1,
-        size: 0,
-    })
 }
 
 pub fn text(bytes: &[u8], at: usize) -> Result<Found, usize>
@@ -107,31 +95,30 @@ pub fn text(bytes: &[u8], at: usize) -> Result<Found, usize>
     })
 }
 
-// Each element is a number of two bytes, at most 256.
+// An element of a pattern, a number of two bytes that is at most 256. Where it ends.
+fn element(bytes: &[u8], at: usize) -> Result<usize, usize>
+    requires { at ≤ length bytes.now }
+    ensures { result ≡ ended at (read_elements 1 (drop at bytes.now)) }
+{
+    match &bytes[at..] {
+        [0, _, ..] | [1, 0, ..] => Ok(at + 2),
+        [0 | 1, ..] => Err(at + 1),
+        _ => Err(at),
+    }
+}
+
 pub fn pattern(bytes: &[u8], at: usize) -> Result<Found, usize>
     requires { at ≤ length bytes.now }
     ensures reads { result ≡ found size_text at (read_pattern (drop at bytes.now)) }
     ensures within { Within at (length bytes.now) result }
 {
     let long = word(bytes, at)? as usize;
-    let start = at + 8;
-    for i in 0..long {
-        let place = start + 2 * i;
-        if place >= bytes.len() {
-            return Err(place);
-        }
-        if bytes[place] > 1 {
-            return Err(place);
-        }
-        if place + 1 >= bytes.len() {
-            return Err(place + 1);
-        }
-        if bytes[place] as u16 * 256 + bytes[place + 1] as u16 > 256 {
-            return Err(place + 1);
-        }
+    let mut end = at + 8;
+    for _ in 0..long {
+        end = element(bytes, end)?;
     }
     Ok(Found {
-        end: start + 2 * long,
+        end,
         size: long + 1,
     })
 }
@@ -146,114 +133,55 @@ pub fn opens(bytes: &[u8], at: usize, kind: Kind, height: usize) -> Result<Opene
         Forms::Only(fields) => return Ok(Opened { start: at, fields }),
         Forms::ByTag(table) => table,
     };
-    if at >= bytes.len() {
-        return Err(at);
+    let tag = bytes.get(at).ok_or(at)?;
+    match table.get(*tag as usize) {
+        Some(form) if !form.inner || height > 0 => Ok(Opened {
+            start: at + 1,
+            fields: form.fields,
+        }),
+        _ => Err(at),
     }
-    let tag = bytes[at] as usize;
-    if tag >= table.len() {
-        return Err(at);
-    }
-    let form = table[tag];
-    if form.inner {
-        if height == 0 {
-            return Err(at);
-        }
-    }
-    Ok(Opened {
-        start: at + 1,
-        fields: form.fields,
-    })
 }
 
-// Any number of elements of one shape, each behind a 1, and a 0 behind them all.
-#[cycle(field_fields_list_node)]
-fn list(bytes: &[u8], at: usize, shape: &[Field], height: usize) -> Result<Found, usize>
-    requires inside { at ≤ length bytes.now }
-    requires paid { parts (fields_of shape.now) ≡ 0 }
-    ensures reads { result ≡ found (sum_of (size_fields (fields_of shape.now))) at (read_list (read_fields (read_node height) (fields_of shape.now)) 0 (drop at bytes.now)) }
-    ensures within { Within at (length bytes.now) result }
-{
-    let mut end = at;
-    let mut size = 0;
-    while end < bytes.len() {
-        let mark = bytes[end];
-        if mark == 0 {
-            return Ok(Found { end: end + 1, size });
-        }
-        if mark != 1 {
-            return Err(end);
-        }
-        let item = fields(bytes, end + 1, shape, height)?;
-        end = item.end;
-        size += item.size;
-    }
-    Err(end)
-}
-
-#[cycle(field_fields_list_node)]
-fn fields(bytes: &[u8], at: usize, shape: &[Field], height: usize) -> Result<Found, usize>
+// Fields, one behind another.
+pub(crate) fn fields(
+    bytes: &[u8],
+    at: usize,
+    shape: &[Field],
+    height: usize,
+) -> Result<Found, usize>
     requires { at ≤ length bytes.now }
     ensures reads { result ≡ found (size_fields (fields_of shape.now)) at (read_fields (read_node height) (fields_of shape.now) (drop at bytes.now)) }
     ensures within { WithinBy (parts (fields_of shape.now)) (smalls (fields_of shape.now)) at (length bytes.now) result }
 {
-    let mut end = at;
-    let mut size = 0;
-    for f in shape {
-        let part = field(bytes, end, *f, height)?;
-        end = part.end;
-        size += part.size;
-    }
-    Ok(Found { end, size })
-}
-
-#[cycle(field_fields_list_node)]
-fn field(bytes: &[u8], at: usize, shape: Field, height: usize) -> Result<Found, usize>
-    requires { at ≤ length bytes.now }
-    ensures reads { result ≡ found (size_field (field_of shape)) at (read_field (read_node height) (field_of shape) (drop at bytes.now)) }
-    ensures within { WithinBy (is_part (field_of shape)) (is_small (field_of shape)) at (length bytes.now) result }
-{
-    match shape {
-        Field::Part => Ok(Found { end: at, size: 1 }),
-        Field::Small(small) => choice(bytes, at, small),
-        Field::Word => number(bytes, at),
-        Field::Text => text(bytes, at),
-        Field::Pattern => pattern(bytes, at),
-        Field::Node(kind) => node(bytes, at, kind, height),
-        Field::List(items) => list(bytes, at, item_fields(items), height),
-    }
+    count::fields::<Size>(bytes, at, shape, 0, height)
 }
 
 // A tree of a kind, of at most some height.
-#[cycle(field_fields_list_node)]
 pub fn node(bytes: &[u8], at: usize, kind: Kind, height: usize) -> Result<Found, usize>
     requires { at ≤ length bytes.now }
     ensures reads { result ≡ found (size_tree (kind_of kind)) at (read_node height (kind_of kind) (drop at bytes.now)) }
     ensures within { Within at (length bytes.now) result }
 {
-    if height == 0 {
-        return Err(at);
-    }
-    let opened = opens(bytes, at, kind, height - 1)?;
-    fields(bytes, opened.start, opened.fields, height - 1)
+    count::node::<Size>(bytes, at, kind, height)
 }
 
 // A whole call, with nothing behind it.
 pub fn scan(bytes: &[u8]) -> Result<Scanned, usize>
     ensures { result ≡ scanned (decode bytes.now) }
 {
-    if bytes.len() == 0 {
+    let first = bytes.first().ok_or(0_usize)?;
+    let Ok(call) = CallKind::try_from(*first) else {
         return Err(0);
+    };
+    let found = fields(bytes, CALL_START, call.fields(), CALL_HEIGHT)?;
+    if found.end != bytes.len() {
+        return Err(found.end);
     }
-    let tag = bytes[0];
-    let table = calls();
-    if tag as usize >= table.len() {
-        return Err(0);
-    }
-    let f = fields(bytes, 1, table[tag as usize].fields, CALL_HEIGHT)?;
-    if f.end != bytes.len() {
-        return Err(f.end);
-    }
-    Ok(Scanned { tag, size: f.size })
+    Ok(Scanned {
+        call,
+        size: found.size,
+    })
 }
 
 #[cfg(test)]
@@ -262,73 +190,50 @@ mod tests {
     use std::process::Abort;
     use std::test::Fail;
 
-    fn refused_at(rt: &impl Abort, bytes: &[u8], place: usize) -> Result<(), Fail> {
-        match scan(bytes) {
-            Ok(_) => Err(Fail::new("read")),
-            Err(k) => {
-                assert!(rt; k == place);
-                Ok(())
-            },
-        }
+    fn refused_at(rt: &impl Abort, bytes: &[u8], place: usize) {
+        assert!(rt; scan(bytes) == Err(place));
     }
 
-    fn read_as(rt: &impl Abort, bytes: &[u8], tag: u8, size: usize) -> Result<(), Fail> {
-        match scan(bytes) {
-            Ok(c) => {
-                assert!(rt; c.tag == tag);
-                assert!(rt; c.size == size);
-                Ok(())
-            }
-            Err(_) => Err(Fail::new("refused")),
-        }
+    fn read_as(rt: &impl Abort, bytes: &[u8], number: u8, size: usize) -> Result<(), Fail> {
+        let Ok(scanned) = scan(bytes) else {
+            return Err(Fail::new("refused"));
+        };
+        assert!(rt; u8::from(scanned.call) == number);
+        assert!(rt; scanned.size == size);
+        Ok(())
     }
 
     #[test]
-    fn a_set(rt: HostRuntime) -> Result<(), Fail> {
+    fn a_set(rt: HostRuntime) {
         // the set of false and the text "hi", and a 9 behind it
         let bytes: &[u8] = &[4, 1, 0, 0, 1, 2, 0, 0, 0, 0, 0, 0, 0, 2, 104, 105, 0, 9];
-        match node(bytes, 0, Kind::Value, 2) {
-            Ok(f) => {
-                assert!(rt; f.end == 17);
-                assert!(rt; f.size == 5);
-                Ok(())
-            }
-            Err(_) => Err(Fail::new("refused")),
-        }
+        assert!(rt; node(bytes, 0, Kind::Value, 2) == Ok(Found { end: 17, size: 5 }));
     }
 
     #[test]
-    fn a_set_in_a_set(rt: HostRuntime) -> Result<(), Fail> {
+    fn a_set_in_a_set(rt: HostRuntime) {
         let bytes: &[u8] = &[4, 1, 4, 0, 0];
-        match node(bytes, 0, Kind::Value, 3) {
-            Ok(f) => assert!(rt; f.size == 2),
-            Err(_) => return Err(Fail::new("refused")),
-        }
-        match node(bytes, 0, Kind::Value, 2) {
-            Ok(_) => Err(Fail::new("read")),
-            Err(k) => {
-                assert!(rt; k == 2);
-                Ok(())
-            },
-        }
+        assert!(rt; node(bytes, 0, Kind::Value, 3) == Ok(Found { end: 5, size: 2 }));
+        assert!(rt; node(bytes, 0, Kind::Value, 2) == Err(2));
     }
 
     #[test]
-    fn cut_short(rt: HostRuntime) -> Result<(), Fail> {
+    fn cut_short(rt: HostRuntime) {
         // to remove a policy whose id has three bytes, of which one is there
-        refused_at(&rt, &[2, 0, 0, 0, 0, 0, 0, 0, 3, 97], 10)
+        refused_at(&rt, &[2, 0, 0, 0, 0, 0, 0, 0, 3, 97], 10);
     }
 
     #[test]
     fn behind_the_end(rt: HostRuntime) -> Result<(), Fail> {
         read_as(&rt, &[5], 5, 0)?;
-        refused_at(&rt, &[5, 0], 1)
+        refused_at(&rt, &[5, 0], 1);
+        Ok(())
     }
 
     #[test]
-    fn no_such_call(rt: HostRuntime) -> Result<(), Fail> {
-        refused_at(&rt, &[], 0)?;
-        refused_at(&rt, &[7], 0)
+    fn no_such_call(rt: HostRuntime) {
+        refused_at(&rt, &[], 0);
+        refused_at(&rt, &[7], 0);
     }
 
     #[test]
@@ -354,7 +259,8 @@ mod tests {
         read_as(&rt, &bytes, 1, 9)?;
         // 257 is no element of a pattern
         bytes[26] = 1;
-        refused_at(&rt, &bytes, 26)
+        refused_at(&rt, &bytes, 26);
+        Ok(())
     }
 
     #[test]
@@ -368,6 +274,7 @@ mod tests {
         read_as(&rt, &bytes, 1, 71)?;
         // and once more
         bytes[80] = 8;
-        refused_at(&rt, &bytes, 80)
+        refused_at(&rt, &bytes, 80);
+        Ok(())
     }
 }

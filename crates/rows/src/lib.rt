@@ -4,15 +4,11 @@
 ghost use Rattle.rows.specs.Rows.{RowsAreBounded, StoreFitsMemory};
 
 // A row has at most four numbers for each unit of size.
-pub fn rows_are_bounded() -> u8
+pub fn rows_are_bounded()
     ensures { RowsAreBounded }
-{
-    0
-}
+{}
 
 // A store within its capacity takes half of the numbers that are lent for each unit of it, and a policy or a request a quarter of those for a call.
-pub fn store_fits_memory() -> u8
+pub fn store_fits_memory()
     ensures { StoreFitsMemory }
-{
-    0
-}
+{}

@@ -11,7 +11,8 @@ use Rattle.wire.specs.Read.{Read, got, stops, past, turn, follow, got_one, read_
 use Rattle.wire.specs.Tags.{bool_tag, entity_tag, set_tag, record_tag}
 use Rattle.wire.specs.Grammar.{type, bool_type, choices, make_type, to_types, type_fields, read_tag_of, read_fields, read_node}
 use Rattle.schema_order.specs.declared.lists.Listed.TheVariants.{Attributes}
-use Rattle.schema_order.specs.Places.{Got, what, holds, Ends, read_item, text_at, type_at, types_at, Attribute, read_attribute, read_many, list_at}
+use Rattle.reader.specs.Ends.{Got}
+use Rattle.schema_order.specs.Places.{what, holds, Ends, read_item, text_at, type_at, types_at, Attribute, read_attribute, read_many, list_at}
 use Rattle.schema_order.proofs.Parts.{pair, attribute-parts, name_end}
 use Rattle.schema_order.proofs.Steps.{step, none, head}
 
@@ -62,6 +63,16 @@ leaf-form h (suc (suc (suc (suc zero)))) rest s g n0 n3 n4 n5 = absurd (n4 refl)
 leaf-form h (suc (suc (suc (suc (suc zero))))) rest s g n0 n3 n4 n5 = absurd (n5 refl)
 leaf-form h (suc (suc (suc (suc (suc (suc b)))))) rest s g n0 n3 n4 n5 = absurd g
 
+no-form : (h b : ℕ) (rest : Bytes) → Got (read_node (suc h) type (b ∷ rest)) → 5 < b → ⊥
+unfolding read_node read_tag_of
+no-form h zero rest g l = omega arith
+no-form h (suc zero) rest g l = omega arith
+no-form h (suc (suc zero)) rest g l = omega arith
+no-form h (suc (suc (suc zero))) rest g l = omega arith
+no-form h (suc (suc (suc (suc zero)))) rest g l = omega arith
+no-form h (suc (suc (suc (suc (suc zero))))) rest g l = omega arith
+no-form h (suc (suc (suc (suc (suc (suc b)))))) rest g l = g
+
 no-type : (h : ℕ) → Got (read_node h type []) → ⊥
 unfolding read_node read_tag_of
 no-type zero g = g
@@ -94,6 +105,10 @@ module _ (bs : Bytes) (at : ℕ) where
   pub type-height : (h : ℕ) → Got (read_node h type (drop at bs)) → 0 < h
   type-height zero g = absurd (no-height (drop at bs) g)
   type-height (suc h) g = omega arith
+
+  pub told-form : (h : ℕ) → Got (read_node h type (drop at bs)) → 5 < get_or bs at 0 → ⊥
+  told-form zero g l = no-height (drop at bs) g
+  told-form (suc h) g l = no-form h (get_or bs at 0) (drop (at + 1) bs) (subst (λ (ys : Bytes). Got (read_node (suc h) type ys)) (drop_more bs at 0 (type-inside (suc h) g)) g) l
 
   choice-inside : Got (read_one (choices bool_type) (drop at bs)) → at < length bs
   choice-inside g = ⊎_elim (λ l. l) (λ l. absurd (no-choice (choices bool_type) (subst (λ (ys : Bytes). Got (read_one (choices bool_type) ys)) (drop_all at bs l) g))) (cases_lt at (length bs))

@@ -7,8 +7,9 @@ use Rattle.wire.specs.Read.{Read, got, stops}
 use Rattle.wire.specs.Grammar.{type, read_node}
 use Rattle.schema_order.specs.declared.lists.Listed.{Listed}
 use Rattle.schema_order.specs.declared.lists.Listed.TheVariants.{Uids, Entries, Actions, Attributes}
-use Rattle.schema_order.specs.Places.{Got, made, what, long, end_of, Ends, text_at, read_uid, uid_at, read_item, key, key_at, plain}
-use Rattle.schema_order.proofs.Pieces.{text-inside}
+use Rattle.reader.specs.Ends.{Got, long, ending}
+use Rattle.schema_order.specs.Places.{made, what, Ends, text_at, read_uid, uid_at, read_item, key, key_at, plain}
+use Rattle.reader.proofs.Stood.{text-inside}
 use Rattle.schema_order.proofs.Parts.{entry-parts, action-parts, attribute-parts, name_end}
 
 pub made-what : {X Y : Type 0} (d : Y) (f : X → Y) (e : X) (R : Read X) → Got R → made d f R ≡ f (what e R)
@@ -19,8 +20,8 @@ made-what d f e (stops k) h = absurd h
 pub got-at : {X : Type 0} (r : Bytes → Read X) (bs : Bytes) (p q : ℕ) → p ≡ q → Got (r (drop q bs)) → Got (r (drop p bs))
 got-at r bs p q e h = subst (λ (k : ℕ). Got (r (drop k bs))) (sym e) h
 
-pub end-at : {X : Type 0} (r : Bytes → Read X) (bs : Bytes) (p q e : ℕ) → p ≡ q → e ≡ end_of p (r (drop p bs)) → e ≡ end_of q (r (drop q bs))
-end-at r bs p q e k h = h ∙ ap (λ (m : ℕ). end_of m (r (drop m bs))) k
+pub end-at : {X : Type 0} (r : Bytes → Read X) (bs : Bytes) (p q e : ℕ) → p ≡ q → e ≡ ending p (r (drop p bs)) → e ≡ ending q (r (drop q bs))
+end-at r bs p q e k h = h ∙ ap (λ (m : ℕ). ending m (r (drop m bs))) k
 
 -- ---- of one kind
 pub got-as : (bs : Bytes) (l m : Listed) → l ≡ m → Got (read_item l bs) → Got (read_item m bs)
@@ -62,5 +63,5 @@ module _ (bs : Bytes) (at : ℕ) where
   pub attribute-inside : (h : ℕ) → Got (read_item (Attributes h) (drop at bs)) → at + 9 ≤ length bs
   attribute-inside h g = omega (arith, text-inside bs (at + 1) (attribute-parts h bs at g).name)
 
-  pub attribute-end : (h e r : ℕ) → Got (read_item (Attributes h) (drop at bs)) → e ≡ name_end h bs at → r ≡ end_of e (read_node h type (drop e bs)) → r ≡ end_of at (read_item (Attributes h) (drop at bs))
-  attribute-end h e r g p q = omega (arith, p, q ∙ ap (λ k. end_of k (read_node h type (drop k bs))) p, ap long (attribute-parts h bs at g).is)
+  pub attribute-end : (h e r : ℕ) → Got (read_item (Attributes h) (drop at bs)) → e ≡ name_end h bs at → r ≡ ending e (read_node h type (drop e bs)) → r ≡ ending at (read_item (Attributes h) (drop at bs))
+  attribute-end h e r g p q = omega (arith, p, q ∙ ap (λ k. ending k (read_node h type (drop k bs))) p, ap long (attribute-parts h bs at g).is)

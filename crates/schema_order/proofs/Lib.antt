@@ -1,9 +1,8 @@
-pub mod Pieces
-pub mod Parts
 pub mod Steps
-pub mod Codes
+pub mod Parts
 pub mod Items
+pub mod Codes
 pub mod Lookups
+pub mod Opened
 pub mod Forms
 pub mod Whole
-pub mod Opened

@@ -6,7 +6,8 @@ use Rattle.spec.specs.Bytes.{Bytes}
 use Rattle.spec.specs.Values.{EntityUID, code_uid}
 use Rattle.wire.specs.Read.{read_text}
 use Rattle.schema_order.specs.declared.lists.Listed.TheVariants.{Uids, Actions}
-use Rattle.schema_order.specs.Places.{Got, holds, text_at, uid_at, read_item, key_at}
+use Rattle.reader.specs.Ends.{Got}
+use Rattle.schema_order.specs.Places.{holds, text_at, uid_at, read_item, key_at}
 use Rattle.schema_order.proofs.Parts.{uid-parts, action-parts}
 use Rattle.schema_order.proofs.Items.{key-uids}
 

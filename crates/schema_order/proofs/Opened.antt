@@ -9,8 +9,9 @@ use Rattle.wire.specs.Read.{read_text, read_list}
 use Rattle.wire.specs.Grammar.{type, read_node, to_types}
 use Rattle.schema_order.specs.declared.lists.Listed.TheVariants.{Names, Uids, Entries, Actions, Attributes}
 use Rattle.schema_order.specs.declared.actions.Lists.{Lists}
-use Rattle.schema_order.specs.Places.{Got, holds, end_of, text_at, uid_at, types_at, read_uid, read_item, read_many, list_at, closed_to, principals_at, resources_at, over_at, context_at, ListsOf, ListsStand}
-use Rattle.schema_order.proofs.Pieces.{text-inside}
+use Rattle.reader.specs.Ends.{Got, ending}
+use Rattle.schema_order.specs.Places.{holds, text_at, uid_at, types_at, read_uid, read_item, read_many, list_at, closed_to, principals_at, resources_at, over_at, context_at, ListsOf, ListsStand}
+use Rattle.reader.proofs.Stood.{text-inside}
 use Rattle.schema_order.proofs.Parts.{uid-parts, entry-parts, above_at, attrs_at, tags_at, action-parts}
 use Rattle.schema_order.proofs.Items.{got-at, end-at}
 
@@ -18,18 +19,18 @@ pub and-two : (a b a' b' : Bool) → a ≡ a' → b ≡ b' → (a && b) ≡ (a' 
 and-two a b a' b' p q = ap (λ x. x && b) p ∙ ap (λ x. a' && x) q
 
 -- ---- an entry of a type
-module _ (bs : Bytes) (at : ℕ) (g : Got (read_item Entries (drop at bs))) (above : ℕ) (p : above ≡ end_of at (read_text (drop at bs))) where
+module _ (bs : Bytes) (at : ℕ) (g : Got (read_item Entries (drop at bs))) (above : ℕ) (p : above ≡ ending at (read_text (drop at bs))) where
   pub above-got : Got (read_many Names (drop above bs))
   above-got = got-at (read_many Names) bs above (above_at bs at) p (entry-parts bs at g).above
 
-  module _ (attrs : ℕ) (q : attrs ≡ end_of above (read_many Names (drop above bs))) where
+  module _ (attrs : ℕ) (q : attrs ≡ ending above (read_many Names (drop above bs))) where
     at-attrs : attrs ≡ attrs_at bs at
     at-attrs = end-at (read_many Names) bs above (above_at bs at) attrs p q
 
     pub attrs-got : Got (read_many (Attributes 64) (drop attrs bs))
     attrs-got = got-at (read_many (Attributes 64)) bs attrs (attrs_at bs at) at-attrs (entry-parts bs at g).attrs
 
-    module _ (tags : ℕ) (r : tags ≡ end_of attrs (read_many (Attributes 64) (drop attrs bs))) where
+    module _ (tags : ℕ) (r : tags ≡ ending attrs (read_many (Attributes 64) (drop attrs bs))) where
       at-tags : tags ≡ tags_at bs at
       at-tags = end-at (read_many (Attributes 64)) bs attrs (attrs_at bs at) tags at-attrs r
 

@@ -9,7 +9,8 @@ use Rattle.spec.specs.Types.{CedarType, int, empty}
 use Rattle.wire.specs.Read.{Read, got, stops, past, turn, follow, nth, got_one, read_text, read_one, read_list}
 use Rattle.wire.specs.Grammar.{type, uid, record_type, entity_entry, action_entry, truth, text, node, list, one, more, two, three, choices, fields, make, to_types, read_fields, read_node}
 use Rattle.schema_order.specs.declared.lists.Listed.TheVariants.{Names, Uids, Entries, Actions, Attributes}
-use Rattle.schema_order.specs.Places.{principals_at, resources_at, over_at, context_at, Got, what, long, end_of, text_at, read_uid, uid_at, type_at, read_attribute, read_item, read_many, list_at}
+use Rattle.reader.specs.Ends.{Got, long, ending}
+use Rattle.schema_order.specs.Places.{principals_at, resources_at, over_at, context_at, what, text_at, read_uid, uid_at, type_at, read_attribute, read_item, read_many, list_at}
 
 -- ---- two things, one behind another
 abbrev pub pair : {X Y : Type 0} → X → Y → X × Y
@@ -20,7 +21,7 @@ module _ {X Y : Type 0} (r : Bytes → Read X) (s : Bytes → Read Y) (bs : Byte
   both = follow (r (drop at bs)) (drop at bs) (λ x rest. turn (pair x) (s rest))
 
   abbrev mid : ℕ
-  mid = end_of at (r (drop at bs))
+  mid = ending at (r (drop at bs))
 
   second : (x : X) (n : ℕ) (S : Read Y) → Got (past n (turn (pair x) S)) → Got S × ((e : Y) → past n (turn (pair x) S) ≡ got (x, what e S) (n + long S))
   second x n (got y k) h = (tt, λ e. refl)
@@ -30,7 +31,7 @@ module _ {X Y : Type 0} (r : Bytes → Read X) (s : Bytes → Read Y) (bs : Byte
   both_is h = go (r (drop at bs)) h
     where
       go : (R : Read X) → Got (follow R (drop at bs) (λ x rest. turn (pair x) (s rest))) →
-          Got R × Got (s (drop (end_of at R) bs)) × ((d : X) (e : Y) → follow R (drop at bs) (λ x rest. turn (pair x) (s rest)) ≡ got (what d R, what e (s (drop (end_of at R) bs))) (long R + long (s (drop (end_of at R) bs))))
+          Got R × Got (s (drop (ending at R) bs)) × ((d : X) (e : Y) → follow R (drop at bs) (λ x rest. turn (pair x) (s rest)) ≡ got (what d R, what e (s (drop (ending at R) bs))) (long R + long (s (drop (ending at R) bs))))
       go (got x n) h =
           let P : Bytes → Type 0 = λ ys. Got (past n (turn (pair x) (s ys))) → Got (s (drop (at + n) bs)) × ((e : Y) → past n (turn (pair x) (s ys)) ≡ got (x, what e (s (drop (at + n) bs))) (n + long (s (drop (at + n) bs)))) in
           let w = subst P (sym (drop-drop n at bs)) (second x n (s (drop (at + n) bs))) h in
@@ -45,8 +46,8 @@ only g (stops k) h = absurd h
 -- ---- names of entities
 pub record UidParts (bs : Bytes) (at : ℕ) : Type 0 where
   pub ty : Got (read_text (drop at bs))
-  pub eid : Got (read_text (drop (end_of at (read_text (drop at bs))) bs))
-  pub is : uid_at bs at ≡ record { ty = text_at bs at; eid = text_at bs (end_of at (read_text (drop at bs))) }
+  pub eid : Got (read_text (drop (ending at (read_text (drop at bs))) bs))
+  pub is : uid_at bs at ≡ record { ty = text_at bs at; eid = text_at bs (ending at (read_text (drop at bs))) }
 
 pub uid-parts : (bs : Bytes) (at : ℕ) → Got (read_uid (drop at bs)) → UidParts bs at
 unfolding read_node
@@ -67,7 +68,7 @@ one-long xs (b ∷ bs) h = go (nth xs b) h
 
 module _ (h : ℕ) (bs : Bytes) (at : ℕ) where
   abbrev pub name_end : ℕ
-  name_end = end_of (at + 1) (read_text (drop (at + 1) bs))
+  name_end = ending (at + 1) (read_text (drop (at + 1) bs))
 
   pub record AttributeParts : Type 0 where
     pub name : Got (read_text (drop (at + 1) bs))
@@ -97,7 +98,7 @@ record_is bs = past-nothing _
 -- the same, where the first thing is made of another
 module _ {X X' Y : Type 0} (g : X' → X) (r : Bytes → Read X) (r' : Bytes → Read X') (s : Bytes → Read Y) (bs : Bytes) (at : ℕ) (q : r (drop at bs) ≡ turn g (r' (drop at bs))) where
   abbrev mid' : ℕ
-  mid' = end_of at (r' (drop at bs))
+  mid' = ending at (r' (drop at bs))
 
   turned-is : Got (both r s bs at) → Got (r' (drop at bs)) × Got (s (drop mid' bs)) × ((d : X') (e : Y) → both r s bs at ≡ got (g (what d (r' (drop at bs))), what e (s (drop mid' bs))) (long (r' (drop at bs)) + long (s (drop mid' bs))))
   turned-is h =
@@ -106,7 +107,7 @@ module _ {X X' Y : Type 0} (g : X' → X) (r : Bytes → Read X) (r' : Bytes →
       (w.0, w.1, λ d e. ap (λ R. follow R (drop at bs) (λ x rest. turn (pair x) (s rest))) q ∙ w.2 d e)
     where
       go : (R : Read X') → Got (follow (turn g R) (drop at bs) (λ x rest. turn (pair x) (s rest))) →
-          Got R × Got (s (drop (end_of at R) bs)) × ((d : X') (e : Y) → follow (turn g R) (drop at bs) (λ x rest. turn (pair x) (s rest)) ≡ got (g (what d R), what e (s (drop (end_of at R) bs))) (long R + long (s (drop (end_of at R) bs))))
+          Got R × Got (s (drop (ending at R) bs)) × ((d : X') (e : Y) → follow (turn g R) (drop at bs) (λ x rest. turn (pair x) (s rest)) ≡ got (g (what d R), what e (s (drop (ending at R) bs))) (long R + long (s (drop (ending at R) bs))))
       go (got x n) h =
           let P : Bytes → Type 0 = λ ys. Got (past n (turn (pair (g x)) (s ys))) → Got (s (drop (at + n) bs)) × ((e : Y) → past n (turn (pair (g x)) (s ys)) ≡ got (g x, what e (s (drop (at + n) bs))) (n + long (s (drop (at + n) bs)))) in
           let w = subst P (sym (drop-drop n at bs)) (second r s bs at (g x) n (s (drop (at + n) bs))) h in
@@ -120,13 +121,13 @@ turned g (stops k) S q h = absurd (rw q at h)
 -- ---- entries of types
 module _ (bs : Bytes) (at : ℕ) where
   abbrev pub above_at : ℕ
-  above_at = end_of at (read_text (drop at bs))
+  above_at = ending at (read_text (drop at bs))
 
   abbrev pub attrs_at : ℕ
-  attrs_at = end_of above_at (read_many Names (drop above_at bs))
+  attrs_at = ending above_at (read_many Names (drop above_at bs))
 
   abbrev pub tags_at : ℕ
-  tags_at = end_of attrs_at (read_many (Attributes 64) (drop attrs_at bs))
+  tags_at = ending attrs_at (read_many (Attributes 64) (drop attrs_at bs))
 
   pub record EntryParts : Type 0 where
     pub name : Got (read_text (drop at bs))

@@ -1,12 +1,14 @@
 -- A list at a place, element by element.
-use Rattle.std.proofs.Common.{◌≡◌, ℕ, ◌+◌, ◌<◌, ◌≤◌, Bool, true, false, cond, ◌&&◌, ◌||◌, eqb, List, [], ◌∷◌, length, get_or, drop, sym, refl, ap, ◌∙◌, subst, ⊎_elim, arith}
+use Rattle.std.proofs.Common.{◌≡◌, ℕ, ◌+◌, ◌<◌, ◌≤◌, Bool, true, false, cond, ◌&&◌, ◌||◌, eqb, List, [], ◌∷◌, length, get_or, drop, sym, not, Some, None, refl, ap, ◌∙◌, subst, ⊎_elim, arith}
 use Rattle.std.proofs.lemmas.Bool.{true≢false, cases_lt, ne_eqb}
 use Rattle.std.proofs.lemmas.List.{drop_more, drop-drop, drop_all, length-drop}
-use Rattle.spec.specs.Basics.{Text, same, any, all, less, ascending}
+use Rattle.std.specs.Option.{is_some}
+use Rattle.spec.specs.Basics.{Text, any, all, less, ascending}
 use Rattle.spec.specs.Bytes.{Bytes}
 use Rattle.wire.specs.Read.{Read, got, stops, past, turn, next, read_list}
 use Rattle.reader.proofs.Along.{list-skip, list-one}
-use Rattle.schema_order.specs.Places.{Got, made, what, holds, long, end_of, Ends, before}
+use Rattle.reader.specs.Ends.{Got, long, ending}
+use Rattle.schema_order.specs.Places.{each, made, what, holds, Ends, before}
 
 -- what comes first, and what is behind it
 tail-parts : {X : Type 0} (x : X) (n : ℕ) (S : Read (List X)) → Got (past 1 (turn (λ xs. x ∷ xs) (past n S))) →
@@ -21,16 +23,6 @@ next-got (stops k) go h = absurd h
 got-pair : {X : Type 0} (R : Read X) → Got R → (x : X) × (n : ℕ) × (R ≡ got x n)
 got-pair (got x n) h = (x, n, refl)
 got-pair (stops k) h = absurd h
-
-pub holds_same : {X : Type 0} (t : Text) (f : X → Text) (R : Read X) → Got R → same t (made [] f R) ≡ holds (λ x. same t (f x)) R
-holds_same t f (got x n) h = refl
-holds_same t f (stops k) h = absurd h
-
--- what comes first in a list that is in order
-ascending-more : {X : Type 0} (f : X → Text) (x : X) (xs : List X) → ascending f (x ∷ xs) ≡ (before f (f x) xs && ascending f xs)
-unfolding ascending
-ascending-more f x [] = refl
-ascending-more f x (y ∷ ys) = refl
 
 next-tail : {X : Type 0} (x : X) (n : ℕ) (S : Read (List X)) → Got (past 1 (turn (λ xs. x ∷ xs) S)) → (y : X) × (m : ℕ) × (xs : List X) × (got x n ≡ got y m) × (what [] (past 1 (turn (λ xs. x ∷ xs) S)) ≡ y ∷ xs)
 next-tail x n (got xs k) h = (x, n, xs, refl, refl)
@@ -69,7 +61,7 @@ module _ {X : Type 0} (r : Bytes → Read X) (bs : Bytes) where
     pub more : e < length bs
     pub rest : Got (read_list r 0 (drop e bs))
     pub is : from p ≡ item ∷ from e
-    pub ends : end_of p (read_list r 0 (drop p bs)) ≡ end_of e (read_list r 0 (drop e bs))
+    pub ends : ending p (read_list r 0 (drop p bs)) ≡ ending e (read_list r 0 (drop e bs))
 
   module _ (p : ℕ) (h : Got (read_list r 0 (drop p bs))) where
     pub first-got : get_or bs p 0 ≡ 1 → Got (r (drop (p + 1) bs))
@@ -81,7 +73,7 @@ module _ {X : Type 0} (r : Bytes → Read X) (bs : Bytes) where
         let f = got-pair (r (drop (p + 1) bs)) (first-got o) in
         let x = f.0 in
         let n = f.1 in
-        let q : e ≡ p + 1 + n = w.0 ∙ ap (end_of (p + 1)) f.2 in
+        let q : e ≡ p + 1 + n = w.0 ∙ ap (ending (p + 1)) f.2 in
         let k : n ≤ length (drop (p + 1) bs) = omega (arith, length-drop (p + 1) bs, q, w.2) in
         let s : read_list r 0 (drop p bs) ≡ past 1 (turn (λ xs. x ∷ xs) (past n (read_list r 0 (drop e bs)))) =
         list-one r bs p (inside p h) o ∙ ap (λ R. past 1 (next R (λ m. read_list r m (drop (p + 1) bs)))) f.2
@@ -109,37 +101,60 @@ module _ {X : Type 0} (r : Bytes → Read X) (bs : Bytes) where
     pub none_before : (f : X → Text) (t : Text) → (get_or bs p 0 ≡ 1 → ⊥) → true ≡ before f t (from p)
     none_before f t n = rw (none n)
 
-    -- ---- whether the keys are in order
-    module _ (f : X → Text) where
-      rise-more : get_or bs p 0 ≡ 1 → (e : ℕ) → Ends (length bs) (p + 1) (r (drop (p + 1) bs)) e → ascending f (from p) ≡ (before f (made [] f (r (drop (p + 1) bs))) (from e) && ascending f (from e))
-      rise-more o e w = let s = step o e w in rw (s.is, s.first) (ascending-more f s.item (from e))
+    -- what a test says of each element and of those behind it
+    module _ (T : X → List X → Bool) where
+      pub each-on : get_or bs p 0 ≡ 1 → (e : ℕ) → Ends (length bs) (p + 1) (r (drop (p + 1) bs)) e → (b : Bool) → b ≡ holds (λ x. T x (from e)) (r (drop (p + 1) bs)) → each T (from p) ≡ (b && each T (from e))
+      each-on o e w b q = let s = step o e w in ap (each T) s.is ∙ ap (λ z. z && each T (from e)) (sym (q ∙ ap (holds (λ x. T x (from e))) s.first))
 
-      pub rise-on : get_or bs p 0 ≡ 1 → (e : ℕ) → Ends (length bs) (p + 1) (r (drop (p + 1) bs)) e → (b : Bool) → b ≡ before f (made [] f (r (drop (p + 1) bs))) (from e) → b ≡ true → ascending f (from e) ≡ ascending f (from p)
-      rise-on o e w b q t = sym (rise-more o e w ∙ ap (λ z. z && ascending f (from e)) (sym q ∙ t))
+      pub each-none : (get_or bs p 0 ≡ 1 → ⊥) → each T (from p) ≡ true
+      each-none n = ap (λ R. each T (what [] R)) (none n)
 
-      pub rise-no : get_or bs p 0 ≡ 1 → (e : ℕ) → Ends (length bs) (p + 1) (r (drop (p + 1) bs)) e → (b : Bool) → b ≡ before f (made [] f (r (drop (p + 1) bs))) (from e) → b ≡ false → false ≡ ascending f (from p)
-      rise-no o e w b q t = sym (rise-more o e w ∙ ap (λ z. z && ascending f (from e)) (sym q ∙ t))
+-- ---- what tests of each element say
+pub each-all : {X : Type 0} (T : X → Bool) (xs : List X) → each (λ x _. T x) xs ≡ all T xs
+each-all T [] = refl
+each-all T (x ∷ xs) = ap (λ b. T x && b) (each-all T xs)
 
-      pub rise-end : (get_or bs p 0 ≡ 1 → ⊥) → true ≡ ascending f (from p)
-      unfolding ascending
-      rise-end n = rw (none n)
+pub all-any : {X : Type 0} (T : X → Bool) (xs : List X) → not (all (λ x. not (T x)) xs) ≡ any T xs
+all-any T [] = refl
+all-any T (x ∷ xs) = go (T x) (all-any T xs)
+  where
+    go : (b : Bool) → not (all (λ x. not (T x)) xs) ≡ any T xs → not (not b && all (λ x. not (T x)) xs) ≡ (b || any T xs)
+    go true e = refl
+    go false e = e
 
-    -- ---- whether a test holds of all or of any of them
-    module _ (T : X → Bool) where
-      pub all-on : get_or bs p 0 ≡ 1 → (e : ℕ) → Ends (length bs) (p + 1) (r (drop (p + 1) bs)) e → (b : Bool) → b ≡ holds T (r (drop (p + 1) bs)) → b ≡ true → all T (from e) ≡ all T (from p)
-      all-on o e w b q t = let s = step o e w in rw (s.is, sym (ap (holds T) s.first) ∙ sym q ∙ t)
+pub each-rises : {X : Type 0} (f : X → Text) (xs : List X) → each (λ x rest. before f (f x) rest) xs ≡ ascending f xs
+unfolding ascending
+each-rises f [] = refl
+each-rises f (x ∷ []) = refl
+each-rises f (x ∷ (y ∷ ys)) = ap (λ b. less (f x) (f y) && b) (each-rises f (y ∷ ys))
 
-      pub all-no : get_or bs p 0 ≡ 1 → (b : Bool) → b ≡ holds T (r (drop (p + 1) bs)) → b ≡ false → false ≡ all T (from p)
-      all-no o b q t = let w = head o in ap (λ z. z && all T w.2) (sym t ∙ q ∙ ap (holds T) w.3) ∙ sym (ap (all T) w.4)
+pub holds-true : {X : Type 0} (R : Read X) → true ≡ holds (λ x. true) R
+holds-true (got x n) = refl
+holds-true (stops k) = refl
 
-      pub all_end : (get_or bs p 0 ≡ 1 → ⊥) → true ≡ all T (from p)
-      all_end n = rw (none n)
+pub before-holds : {X : Type 0} (f : X → Text) (xs : List X) (R : Read X) → Got R → before f (made [] f R) xs ≡ holds (λ x. before f (f x) xs) R
+before-holds f xs (got x n) g = refl
+before-holds f xs (stops k) g = absurd g
 
-      pub any-on : get_or bs p 0 ≡ 1 → (e : ℕ) → Ends (length bs) (p + 1) (r (drop (p + 1) bs)) e → (b : Bool) → b ≡ holds T (r (drop (p + 1) bs)) → b ≡ false → any T (from e) ≡ any T (from p)
-      any-on o e w b q t = let s = step o e w in rw (s.is, sym (ap (holds T) s.first) ∙ sym q ∙ t)
+-- the answer of a walk
+pub walked : (b : Bool) (n : ℕ) → is_some (cond b (Some n) None) ≡ b
+walked true n = refl
+walked false n = refl
 
-      pub any-yes : get_or bs p 0 ≡ 1 → (b : Bool) → b ≡ holds T (r (drop (p + 1) bs)) → b ≡ true → true ≡ any T (from p)
-      any-yes o b q t = let w = head o in ap (λ z. z || any T w.2) (sym t ∙ q ∙ ap (holds T) w.3) ∙ sym (ap (any T) w.4)
+pub not-holds : {X : Type 0} (b : Bool) (T : X → Bool) (R : Read X) → Got R → not b ≡ holds T R → b ≡ holds (λ x. not (T x)) R
+not-holds b T (got x n) g e = sym (twice b) ∙ ap not e
+  where
+    twice : (b : Bool) → not (not b) ≡ b
+    twice true = refl
+    twice false = refl
+not-holds b T (stops k) g e = absurd g
 
-      pub any-end : (get_or bs p 0 ≡ 1 → ⊥) → false ≡ any T (from p)
-      any-end n = rw (none n)
+each-true : {X : Type 0} (xs : List X) → each (λ x rest. true) xs ≡ true
+each-true [] = refl
+each-true (x ∷ xs) = each-true xs
+
+pub never-none : {X : Type 0} (xs : List X) (n : ℕ) → None ≡ cond (each (λ x rest. true) xs) (Some n) None → ⊥
+never-none xs n e = let q : None ≡ Some n = e ∙ ap (λ b. cond b (Some n) None) (each-true xs) in cc
+
+pub always-some : {X : Type 0} (xs : List X) (n m : ℕ) → Some m ≡ cond (each (λ x rest. true) xs) (Some n) None → m ≡ n
+always-some xs n m e = let q : Some m ≡ Some n = e ∙ ap (λ b. cond b (Some n) None) (each-true xs) in cc

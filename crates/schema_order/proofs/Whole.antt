@@ -1,17 +1,16 @@
 -- A call that sets a schema is its entries of types, and behind them those of actions.
-use Rattle.std.proofs.Common.{◌≡◌, ℕ, ◌+◌, Bool, true, false, cond, eqb, [], ◌∷◌, length, drop, Ok, sym, refl, ap, ◌∙◌, subst, arith}
+use Rattle.std.proofs.Common.{◌≡◌, ℕ, ◌+◌, Bool, true, false, cond, eqb, [], ◌∷◌, length, drop, sym, refl, ap, ◌∙◌, subst}
 use mathlib.Core.Option.{Option, some, none}
 use Rattle.std.proofs.lemmas.Bool.{true≢false, false≢true}
 use Rattle.spec.specs.Bytes.{Bytes}
 use Rattle.spec.specs.Validate.{well_formed}
-use Rattle.spec.specs.Calls.{Call, set_schema, put_policy, remove_policy, put_entity, remove_entity, validate_policies, authorize, malformed}
-use Rattle.reader.specs.declared.scan.Scanned.{Scanned}
-use Rattle.reader.specs.Found.{scanned}
+use Rattle.spec.specs.Calls.{Call, malformed}
 use Rattle.wire.specs.Read.{Read, got, stops, past, turn, follow, nth, got_one, read_one}
 use Rattle.wire.specs.Tags.{CallTag, set_schema_tag, put_policy_tag, remove_policy_tag, put_entity_tag, remove_entity_tag, validate_tag, authorize_tag}
 use Rattle.wire.specs.Grammar.{Contents, call_tags, call_fields, make_call, read_fields, read_node, call_height, read_call, whole, decode}
 use Rattle.schema_order.specs.declared.lists.Listed.TheVariants.{Entries, Actions}
-use Rattle.schema_order.specs.Places.{Got, what, end_of, is_schema, schema_of, read_many, schema_at, Stands}
+use Rattle.reader.specs.Ends.{Got, ending}
+use Rattle.schema_order.specs.Places.{what, is_schema, schema_of, read_many, schema_at, Stands}
 use Rattle.schema_order.proofs.Parts.{both_is}
 
 -- what a call of a number is made of
@@ -32,20 +31,9 @@ other n g (got x k) e h = go (eqb (1 + k) n) h
     go false h = false≢true h
 other n g (stops k) e h = false≢true h
 
--- for those who scanned before: a scan that answered the number 0 read a schema
-pub scanned-schema : (c : Call) (f : Scanned) → Ok f ≡ scanned c → f.tag ≡ 0 → is_schema c ≡ true
-scanned-schema (set_schema s) f e z = refl
-scanned-schema (put_policy p) f e z = let k : f.tag ≡ 1 = cc in absurd (omega arith)
-scanned-schema (remove_policy t) f e z = let k : f.tag ≡ 2 = cc in absurd (omega arith)
-scanned-schema (put_entity u) f e z = let k : f.tag ≡ 3 = cc in absurd (omega arith)
-scanned-schema (remove_entity u) f e z = let k : f.tag ≡ 4 = cc in absurd (omega arith)
-scanned-schema validate_policies f e z = let k : f.tag ≡ 5 = cc in absurd (omega arith)
-scanned-schema (authorize q) f e z = let k : f.tag ≡ 6 = cc in absurd (omega arith)
-scanned-schema (malformed j) f e z = let k : ◌≡◌ {A = ℕ} 0 1 = cc in absurd (omega arith)
-
 -- ---- the schema
 abbrev pub actions_at : Bytes → ℕ
-actions_at bs = end_of 1 (read_many Entries (drop 1 bs))
+actions_at bs = ending 1 (read_many Entries (drop 1 bs))
 
 module _ (bs : Bytes) where
   abbrev inside : (g : CallTag) → Read (Contents (call_fields g))

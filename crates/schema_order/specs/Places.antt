@@ -1,5 +1,6 @@
 -- What stands at a place among the bytes of a schema. Assumes nothing: these are definitions.
-use Rattle.std.specs.Prelude.{◌≡◌, ℕ, ◌+◌, ◌-◌, ◌≤◌, Bool, true, false, cond, List, [], ◌∷◌, take, drop}
+use Rattle.std.specs.Prelude.{◌≡◌, ℕ, ◌≤◌, Bool, true, false, cond, ◌&&◌, List, [], ◌∷◌, length, drop, Some, None, Option}
+use Rattle.std.specs.Coded.{×_prop, Unit-prop}
 use Rattle.spec.specs.Basics.{Text, any, less}
 use Rattle.spec.specs.Bytes.{Bytes}
 use Rattle.spec.specs.Values.{EntityUID, code_uid, same_uid}
@@ -8,6 +9,7 @@ use Rattle.spec.specs.Validate.{all_in}
 use Rattle.spec.specs.Calls.{Call, set_schema, put_policy, remove_policy, put_entity, remove_entity, validate_policies, authorize, malformed}
 use Rattle.wire.specs.Read.{Read, got, stops, read_text, read_list}
 use Rattle.wire.specs.Grammar.{type, uid, entity_entry, action_entry, small, truth, text, node, three, read_fields, read_node}
+use Rattle.reader.specs.Ends.{Got, ending}
 use Rattle.schema_order.specs.declared.lists.Listed.{Listed}
 use Rattle.schema_order.specs.declared.lists.Listed.TheVariants.{Names, Uids, Entries, Actions, Attributes}
 use Rattle.schema_order.specs.declared.actions.Lists.{Lists}
@@ -33,11 +35,7 @@ schema_of validate_policies = record { ets = []; acts = [] }
 schema_of (authorize q) = record { ets = []; acts = [] }
 schema_of (malformed k) = record { ets = []; acts = [] }
 
--- ---- what was read: that something was, what is made of it, and where it ends
-abbrev pub Got : {X : Type 0} → Read X → Type 0
-Got (got x n) = Unit {0}
-Got (stops k) = ⊥
-
+-- ---- what is made of what was read, and where that ends
 -- d stands where nothing was read
 abbrev pub made : {X Y : Type 0} → Y → (X → Y) → Read X → Y
 made d f (got x n) = f x
@@ -49,20 +47,14 @@ what d R = made d (λ x. x) R
 abbrev pub holds : {X : Type 0} → (X → Bool) → Read X → Bool
 holds f R = made true f R
 
-abbrev pub long : {X : Type 0} → Read X → ℕ
-long (got x n) = n
-long (stops k) = k
-
-abbrev pub end_of : {X : Type 0} → ℕ → Read X → ℕ
-end_of at R = at + long R
-
 -- it ends at r, among the bytes
 abbrev pub Ends : {X : Type 0} → ℕ → ℕ → Read X → ℕ → Type 0
-Ends len at R r = (r ≡ end_of at R) × (at ≤ r) × (r ≤ len)
+Ends len at R r = (r ≡ ending at R) × (at ≤ r) × (r ≤ len)
 
--- the bytes from one place to another
-abbrev pub piece : Bytes → ℕ → ℕ → Text
-piece bs from to = take (to - from) (drop from bs)
+-- it ends among the bytes
+abbrev pub Within : ℕ → ℕ → Option ℕ → Type 0
+Within at len (Some end) = (at ≤ end) × (end ≤ len)
+Within at len None = Unit {0}
 
 -- ---- single things
 abbrev pub text_at : Bytes → ℕ → Text
@@ -126,6 +118,22 @@ plain Entries = Names
 plain Actions = Uids
 plain (Attributes h) = Names
 
+-- an element stands at a place, and those behind it where it ends
+abbrev pub IsElement : Bytes → Listed → ℕ → ℕ → Type 0
+IsElement bs l item next = Got (read_item l (drop item bs)) × Ends (length bs) item (read_item l (drop item bs)) next × Got (read_many l (drop next bs))
+
+-- what is answered of places is what a test says of the elements there, and of those behind them
+abbrev pub Decides : (ℕ → ℕ → Bool → Type 0) → Bytes → (l : Listed) → (Item l → List (Item l) → Bool) → Type 0
+Decides answers bs l T = (item next : ℕ) (b : Bool) → IsElement bs l item next → answers item next b → b ≡ holds (λ x. T x (list_at l bs next)) (read_item l (drop item bs))
+
+abbrev pub DecidesItem : (ℕ → Bool → Type 0) → Bytes → (l : Listed) → (Item l → Bool) → Type 0
+DecidesItem answers bs l T = (item : ℕ) (b : Bool) → Got (read_item l (drop item bs)) → answers item b → b ≡ holds T (read_item l (drop item bs))
+
+-- a test holds of each element and of those behind it
+abbrev pub each : {X : Type 0} → (X → List X → Bool) → List X → Bool
+each T [] = true
+each T (x ∷ xs) = T x xs && each T xs
+
 -- nothing follows, or something with a greater key
 abbrev pub before : {X : Type 0} → (X → Text) → Text → List X → Bool
 before f t [] = true
@@ -138,18 +146,25 @@ schema_at bs actions = record { ets = list_at Entries bs 1; acts = list_at Actio
 abbrev pub Stands : Bytes → ℕ → Type 0
 Stands bs actions = Got (read_many Entries (drop 1 bs)) × Got (read_many Actions (drop actions bs))
 
+got_prop : {X : Type 0} (R : Read X) → IsProp (Got R)
+got_prop (got x n) = Unit-prop
+got_prop (stops k) = λ g. absurd g
+
+pub stands_prop : (bs : Bytes) (actions : ℕ) → IsProp (Stands bs actions)
+stands_prop bs actions = ×_prop (got_prop (read_many Entries (drop 1 bs))) (got_prop (read_many Actions (drop actions bs)))
+
 -- ---- an action: its name, and behind it its lists
 abbrev pub principals_at : Bytes → ℕ → ℕ
-principals_at bs at = end_of at (read_uid (drop at bs))
+principals_at bs at = ending at (read_uid (drop at bs))
 
 abbrev pub resources_at : Bytes → ℕ → ℕ
-resources_at bs at = end_of (principals_at bs at) (read_many Names (drop (principals_at bs at) bs))
+resources_at bs at = ending (principals_at bs at) (read_many Names (drop (principals_at bs at) bs))
 
 abbrev pub over_at : Bytes → ℕ → ℕ
-over_at bs at = end_of (resources_at bs at) (read_many Names (drop (resources_at bs at) bs))
+over_at bs at = ending (resources_at bs at) (read_many Names (drop (resources_at bs at) bs))
 
 abbrev pub context_at : Bytes → ℕ → ℕ
-context_at bs at = end_of (over_at bs at) (read_many Uids (drop (over_at bs at) bs))
+context_at bs at = ending (over_at bs at) (read_many Uids (drop (over_at bs at) bs))
 
 abbrev pub ListsOf : Bytes → ℕ → Lists → Type 0
 ListsOf bs at l = (l.principals ≡ principals_at bs at) × (l.resources ≡ resources_at bs at) × (l.above ≡ over_at bs at) × (l.context ≡ context_at bs at)

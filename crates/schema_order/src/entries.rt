@@ -1,39 +1,39 @@
 // Whether the entries of types in the bytes of a schema are well-formed.
-ghost use Rattle.std.specs.Prelude.{◌≡◌, ◌+◌, drop};
+ghost use Rattle.std.specs.Prelude.{◌≡◌, drop};
 ghost use Rattle.spec.specs.Basics.{all};
 ghost use Rattle.spec.specs.Validate.{well_formed_entry};
+ghost use Rattle.reader.specs.Ends.{Got};
 ghost use Rattle.schema_order.specs.declared.lists.Listed.TheVariants.{Entries};
-ghost use Rattle.schema_order.specs.Places.{Got, Stands, holds, read_item, list_at, schema_at};
+ghost use Rattle.schema_order.specs.Places.{holds, read_item, list_at};
+ghost use Rattle.schema_order.specs.Schemas.{schema_in};
 
-use crate::known::{TYPES, all_types};
-use crate::lists::{Listed, item_end, list_end, rises};
-use crate::texts::text_end;
-use crate::types::{TYPE_HEIGHT, record_fits, tags_fit};
+use crate::lists::{Listed, TYPE_HEIGHT, all_items, list_end, rises};
+use crate::schema::{Schema, TYPES};
+use reader::ends::text_end;
 
-// An entry is a name, the types above it, its attributes, and the type of its tags.
-fn entry_fits(bytes: &[u8], actions: usize, at: usize) -> bool
-    requires { (Stands bytes.now actions) × (Got (read_item Entries (drop at bytes.now))) }
-    ensures { result ≡ holds (well_formed_entry (schema_at bytes.now actions)) (read_item Entries (drop at bytes.now)) }
-{
-    let above = text_end(bytes, at);
-    let attrs = list_end(bytes, above, Listed::Names);
-    let tags = list_end(bytes, attrs, Listed::Attributes(TYPE_HEIGHT));
-    let ordered = rises(bytes, above, Listed::Names);
-    let there = all_types(bytes, actions, above);
-    let fits = record_fits(bytes, actions, attrs, TYPE_HEIGHT);
-    (ordered & there) & (fits & tags_fit(bytes, actions, tags))
-}
-
-pub(crate) fn entries_fit(bytes: &[u8], actions: usize) -> bool
-    requires { Stands bytes.now actions }
-    ensures { result ≡ all (well_formed_entry (schema_at bytes.now actions)) (list_at Entries bytes.now 1) }
-{
-    let mut end = TYPES;
-    while bytes[end] == 1 {
-        if !entry_fits(bytes, actions, end + 1) {
-            return false;
-        }
-        end = item_end(bytes, end + 1, Listed::Entries);
+impl Schema<'_> {
+    // An entry is a name, the types above it, its attributes, and the type of its tags.
+    fn entry_fits(&self, at: usize) -> bool
+        requires { Got (read_item Entries (drop at self.now.bytes.now)) }
+        ensures { result ≡ holds (well_formed_entry (schema_in self.now)) (read_item Entries (drop at self.now.bytes.now)) }
+    {
+        let above = text_end(self.bytes, at);
+        let attrs = list_end(self.bytes, above, Listed::Names);
+        let tags = list_end(self.bytes, attrs, Listed::Attributes(TYPE_HEIGHT));
+        let ordered = rises(self.bytes, above, Listed::Names);
+        let there = self.all_types(above);
+        let fits = self.record_fits(attrs, TYPE_HEIGHT);
+        (ordered & there) & (fits & self.tags_fit(tags))
     }
-    true
+
+    pub(crate) fn entries_fit(&self) -> bool
+        ensures { result ≡ all (well_formed_entry (schema_in self.now)) (list_at Entries self.now.bytes.now 1) }
+    {
+        all_items(
+            self.bytes,
+            TYPES,
+            Listed::Entries,
+            |entry| self.entry_fits(entry),
+        )
+    }
 }

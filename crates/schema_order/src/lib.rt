@@ -5,6 +5,7 @@ mod actions;
 mod entries;
 mod known;
 mod lists;
+mod schema;
 mod texts;
 mod types;
 mod uids;
@@ -14,10 +15,8 @@ ghost use Rattle.spec.specs.Validate.{well_formed};
 ghost use Rattle.wire.specs.Grammar.{decode};
 ghost use Rattle.schema_order.specs.Places.{is_schema, schema_of};
 
-use crate::actions::actions_fit;
-use crate::entries::entries_fit;
-use crate::known::TYPES;
 use crate::lists::{Listed, list_end, rises};
+use crate::schema::{Schema, TYPES};
 
 // The bytes are those of a call that sets a schema.
 pub fn well_formed(bytes: &[u8]) -> bool
@@ -25,28 +24,25 @@ pub fn well_formed(bytes: &[u8]) -> bool
     ensures { result ≡ well_formed (schema_of (decode bytes.now)) }
 {
     let actions = list_end(bytes, TYPES, Listed::Entries);
+    let schema = Schema { bytes, actions };
     let types_rise = rises(bytes, TYPES, Listed::Entries);
     let actions_rise = rises(bytes, actions, Listed::Actions);
-    let types_fit = entries_fit(bytes, actions);
-    (types_rise & actions_rise) & (types_fit & actions_fit(bytes, actions))
+    let types_fit = schema.entries_fit();
+    (types_rise & actions_rise) & (types_fit & schema.actions_fit())
 }
 
 #[cfg(test)]
 mod tests {
     use super::*;
+    use reader::grammar::CallKind;
     use reader::scan::scan;
 
     // Whether the bytes are read as a call that sets a schema, and the schema is well-formed.
     fn accepted(bytes: &[u8]) -> bool {
-        match scan(bytes) {
-            Ok(call) => {
-                if call.tag != 0 {
-                    return false;
-                }
-                well_formed(bytes)
-            }
-            Err(_) => false,
-        }
+        let Ok(call) = scan(bytes) else {
+            return false;
+        };
+        call.call == CallKind::SetSchema && well_formed(bytes)
     }
 
     #[test]

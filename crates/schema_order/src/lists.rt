@@ -1,16 +1,21 @@
 // Lists in bytes that were read before: where they end, whether they are in order, and whether something is in them.
-ghost use Rattle.std.specs.Prelude.{◌≡◌, ◌+◌, ◌-◌, ◌≤◌, length, drop};
-ghost use Rattle.spec.specs.Basics.{same, less, any, ascending};
-ghost use Rattle.wire.specs.Grammar.{read_node};
-ghost use Rattle.reader.specs.Code.{kind_of};
-ghost use Rattle.schema_order.specs.Places.{Got, Ends, read_item, read_many, list_at, key, key_at, plain, before};
+// Bytes and a place among them make no struct: the bytes stay while the place moves on, and most functions take two places.
+ghost use Rattle.std.specs.Prelude.{◌≡◌, ◌+◌, ◌≤◌, not, cond, Bool, List, Some, None, length, drop};
+ghost use Rattle.spec.specs.Basics.{same, less, any, all, ascending};
+ghost use Rattle.reader.specs.Ends.{Got, ending};
+ghost use Rattle.schema_order.specs.Places.{Ends, Within, Item, read_item, read_many, list_at, key, key_at, plain, before, IsElement, Decides, DecidesItem, each};
 
-use crate::texts::{less_text, same_text, text_end};
+use crate::texts::{less_text, same_text};
 use crate::uids::{less_uid, same_uid};
+use reader::ends::{node_end, text_end};
 use reader::grammar::Kind;
-use reader::scan::node;
+use reader::scan::{CALL_HEIGHT, PART_HEIGHT};
+
+// What stands in an entry is of the height of a part, and the types in its record are of the next.
+pub(crate) const TYPE_HEIGHT: usize = PART_HEIGHT - 1;
 
 // What a list is a list of; attributes have types of some height.
+// An enum and no closure: how an element is read, its key and its order are definitions by what the list is of.
 #[derive(Clone, Copy)]
 pub(crate) enum Listed {
     Names,
@@ -20,17 +25,6 @@ pub(crate) enum Listed {
     Attributes(usize),
 }
 
-// Where a tree ends.
-pub(crate) fn node_end(bytes: &[u8], at: usize, kind: Kind, height: usize) -> usize
-    requires { (at ≤ length bytes.now) × (Got (read_node height (kind_of kind) (drop at bytes.now))) }
-    ensures { Ends (length bytes.now) at (read_node height (kind_of kind) (drop at bytes.now)) result }
-{
-    match node(bytes, at, kind, height) {
-        Ok(f) => f.end,
-        Err(_) => unreachable(),
-    }
-}
-
 // Where an element of a list ends.
 pub(crate) fn item_end(bytes: &[u8], at: usize, listed: Listed) -> usize
     requires { (at ≤ length bytes.now) × (Got (read_item listed (drop at bytes.now))) }
@@ -38,11 +32,73 @@ pub(crate) fn item_end(bytes: &[u8], at: usize, listed: Listed) -> usize
 {
     match listed {
         Listed::Names => text_end(bytes, at),
-        Listed::Uids => node_end(bytes, at, Kind::Uid, 65),
-        Listed::Entries => node_end(bytes, at, Kind::EntityEntry, 66),
-        Listed::Actions => node_end(bytes, at, Kind::ActionEntry, 66),
+        Listed::Uids => node_end(bytes, at, Kind::Uid, PART_HEIGHT),
+        Listed::Entries => node_end(bytes, at, Kind::EntityEntry, CALL_HEIGHT),
+        Listed::Actions => node_end(bytes, at, Kind::ActionEntry, CALL_HEIGHT),
         Listed::Attributes(height) => node_end(bytes, text_end(bytes, at + 1), Kind::Type, height),
     }
+}
+
+// Goes along a list: where it ends, if a test holds of the place of each element and of the place behind it.
+// The one loop along lists. A closure and no iterator: that would be a struct with an invariant and an impl with two ghost members, where this loop has
+// seven lines.
+fn walk<F: Fn(usize, usize) -> bool>(
+    bytes: &[u8],
+    at: usize,
+    listed: Listed,
+    test: F,
+) -> Option<usize>
+    requires stands { Got (read_many listed (drop at bytes.now)) }
+    requires can { (item next : _) → IsElement bytes.now listed item next → F.pre test item next }
+    ensures is { (T : Item listed → List (Item listed) → Bool) → Decides (F.post test) bytes.now listed T → result ≡ cond (each T (list_at listed bytes.now at)) (Some (ending at (read_many listed (drop at bytes.now)))) None }
+    ensures within { Within at (length bytes.now) result }
+{
+    let mut end = at;
+    while bytes[end] == 1 {
+        let item = end + 1;
+        let next = item_end(bytes, item, listed);
+        if !test(item, next) {
+            return None;
+        }
+        end = next;
+    }
+    Some(end + 1)
+}
+
+// Whether a test holds of the place of each element of a list.
+pub(crate) fn all_items<F: Fn(usize) -> bool>(
+    bytes: &[u8],
+    at: usize,
+    listed: Listed,
+    test: F,
+) -> bool
+    requires stands { Got (read_many listed (drop at bytes.now)) }
+    requires can { (item : _) → Got (read_item listed (drop item bytes.now)) → F.pre test item }
+    ensures { (T : Item listed → Bool) → DecidesItem (F.post test) bytes.now listed T → result ≡ all T (list_at listed bytes.now at) }
+{
+    let each = |item: usize, _next: usize| -> bool
+        requires { F.pre test item }
+        ensures { F.post test item result }
+    { test(item) };
+    walk(bytes, at, listed, each).is_some()
+}
+
+// Whether a test holds of the place of some element of a list.
+pub(crate) fn any_item<F: Fn(usize) -> bool>(
+    bytes: &[u8],
+    at: usize,
+    listed: Listed,
+    test: F,
+) -> bool
+    requires stands { Got (read_many listed (drop at bytes.now)) }
+    requires can { (item : _) → Got (read_item listed (drop item bytes.now)) → F.pre test item }
+    ensures { (T : Item listed → Bool) → DecidesItem (F.post test) bytes.now listed T → result ≡ any T (list_at listed bytes.now at) }
+{
+    let fails = |item: usize| -> bool
+        requires { F.pre test item }
+        ensures { F.post test item (not result) }
+    { !test(item) };
+    !all_items(bytes, at, listed, fails)
 }
 
 // Where a list ends.
@@ -50,11 +106,10 @@ pub(crate) fn list_end(bytes: &[u8], at: usize, listed: Listed) -> usize
     requires { Got (read_many listed (drop at bytes.now)) }
     ensures { Ends (length bytes.now) at (read_many listed (drop at bytes.now)) result }
 {
-    let mut end = at;
-    while bytes[end] == 1 {
-        end = item_end(bytes, end + 1, listed);
-    }
-    end + 1
+    let Some(end) = walk(bytes, at, listed, |_, _| true) else {
+        unreachable()
+    };
+    end
 }
 
 // Whether the key of the element at one place comes before that of the element at another.
@@ -87,15 +142,13 @@ pub(crate) fn rises(bytes: &[u8], at: usize, listed: Listed) -> bool
     requires { Got (read_many listed (drop at bytes.now)) }
     ensures { result ≡ ascending (key listed) (list_at listed bytes.now at) }
 {
-    let mut end = at;
-    while bytes[end] == 1 {
-        let next = item_end(bytes, end + 1, listed);
-        if !follows(bytes, end + 1, next, listed) {
-            return false;
-        }
-        end = next;
-    }
-    true
+    walk(
+        bytes,
+        at,
+        listed,
+        |item, next| follows(bytes, item, next, listed),
+    )
+    .is_some()
 }
 
 // Whether a name, of a type or of an entity as the list has them, is the key of an element.
@@ -117,12 +170,10 @@ pub(crate) fn among(bytes: &[u8], place: usize, at: usize, listed: Listed) -> bo
     requires { (Got (read_item (plain listed) (drop place bytes.now))) × (Got (read_many listed (drop at bytes.now))) }
     ensures { result ≡ any (λ x. same (key_at (plain listed) bytes.now place) (key listed x)) (list_at listed bytes.now at) }
 {
-    let mut end = at;
-    while bytes[end] == 1 {
-        if same_key(bytes, place, end + 1, listed) {
-            return true;
-        }
-        end = item_end(bytes, end + 1, listed);
-    }
-    false
+    any_item(
+        bytes,
+        at,
+        listed,
+        |item| same_key(bytes, place, item, listed),
+    )
 }

@@ -5,79 +5,71 @@ ghost use Rattle.spec.specs.Types.{record_of};
 ghost use Rattle.spec.specs.Validate.{well_formed_type};
 ghost use Rattle.wire.specs.Read.{read_list};
 ghost use Rattle.wire.specs.Grammar.{type, read_node, to_types};
+ghost use Rattle.reader.specs.Ends.{Got};
 ghost use Rattle.schema_order.specs.declared.lists.Listed.TheVariants.{Attributes};
-ghost use Rattle.schema_order.specs.Places.{Got, Stands, read_many, type_at, types_at, list_at, schema_at};
+ghost use Rattle.schema_order.specs.Places.{holds, read_item, read_many, type_at, types_at, list_at};
+ghost use Rattle.schema_order.specs.Schemas.{schema_in};
 
-use crate::known::type_known;
-use crate::lists::{Listed, item_end, node_end, rises};
-use crate::texts::text_end;
+use crate::lists::{Listed, all_items, rises};
+use crate::schema::Schema;
+use reader::ends::{node_end, text_end};
 use reader::grammar::Kind;
+use reader::scan::PART_HEIGHT;
+use reader::value_kind::ValueKind;
 
-// What stands in an entry is of this height, and the types in its record are of the next.
-const PART_HEIGHT: usize = 65;
-
-pub(crate) const TYPE_HEIGHT: usize = 64;
-
-#[cycle(attributes_fit_record_fits_type_fits)]
-pub(crate) fn type_fits(bytes: &[u8], actions: usize, at: usize, height: usize) -> bool
-    requires { (Stands bytes.now actions) × (Got (read_node height type (drop at bytes.now))) }
-    ensures { result ≡ well_formed_type (type_at height bytes.now at) (schema_at bytes.now actions) }
-{
-    let tag = bytes[at];
-    if tag == 0 {
-        return bytes[at + 1] == 0;
+impl Schema<'_> {
+    #[cycle(attribute_fits_record_fits_type_fits)]
+    pub(crate) fn type_fits(&self, at: usize, height: usize) -> bool
+        requires { Got (read_node height type (drop at self.now.bytes.now)) }
+        ensures { result ≡ well_formed_type (type_at height self.now.bytes.now at) (schema_in self.now) }
+    {
+        let Ok(kind) = ValueKind::try_from(self.bytes[at]) else {
+            unreachable()
+        };
+        match kind {
+            ValueKind::Bool => self.bytes[at + 1] == 0,
+            ValueKind::Int | ValueKind::String => true,
+            ValueKind::Entity => self.type_known(at + 1),
+            ValueKind::Set => self.type_fits(at + 1, height - 1),
+            ValueKind::Record => self.record_fits(at + 1, height - 1),
+        }
     }
-    if tag == 3 {
-        return type_known(bytes, actions, at + 1);
-    }
-    if tag == 4 {
-        return type_fits(bytes, actions, at + 1, height - 1);
-    }
-    if tag == 5 {
-        return record_fits(bytes, actions, at + 1, height - 1);
-    }
-    true
-}
 
-// The record of the attributes in a list.
-#[cycle(attributes_fit_record_fits_type_fits)]
-pub(crate) fn record_fits(bytes: &[u8], actions: usize, at: usize, height: usize) -> bool
-    requires { (Stands bytes.now actions) × (Got (read_many (Attributes height) (drop at bytes.now))) }
-    ensures { result ≡ well_formed_type (record_of (to_types (list_at (Attributes height) bytes.now at))) (schema_at bytes.now actions) }
-{
-    let ordered = rises(bytes, at, Listed::Attributes(height));
-    ordered & attributes_fit(bytes, actions, at, height)
-}
+    // The record of the attributes in a list.
+    #[cycle(attribute_fits_record_fits_type_fits)]
+    pub(crate) fn record_fits(&self, at: usize, height: usize) -> bool
+        requires { Got (read_many (Attributes height) (drop at self.now.bytes.now)) }
+        ensures { result ≡ well_formed_type (record_of (to_types (list_at (Attributes height) self.now.bytes.now at))) (schema_in self.now) }
+    {
+        let listed = Listed::Attributes(height);
+        let ordered = rises(self.bytes, at, listed);
+        let fits = |item: usize| -> bool
+            requires { Got (read_item (Attributes height) (drop item self.now.bytes.now)) }
+            ensures { result ≡ holds (λ f. well_formed_type f.1.1 (schema_in self.entry.now)) (read_item (Attributes height) (drop item self.entry.now.bytes.now)) }
+        { self.attribute_fits(item, height) };
+        ordered & all_items(self.bytes, at, listed, fits)
+    }
 
-// The type of each attribute in a list.
-#[cycle(attributes_fit_record_fits_type_fits)]
-fn attributes_fit(bytes: &[u8], actions: usize, at: usize, height: usize) -> bool
-    requires { (Stands bytes.now actions) × (Got (read_many (Attributes height) (drop at bytes.now))) }
-    ensures { result ≡ all (λ f. well_formed_type f.1.1 (schema_at bytes.now actions)) (list_at (Attributes height) bytes.now at) }
-{
-    let mut end = at;
-    while bytes[end] == 1 {
-        // a byte before the name says whether it is required
-        let item = end + 1;
-        let body = text_end(bytes, item + 1);
-        if !type_fits(bytes, actions, body, height) {
+    // The type of an attribute; a byte before its name says whether it is required.
+    #[cycle(attribute_fits_record_fits_type_fits)]
+    fn attribute_fits(&self, at: usize, height: usize) -> bool
+        requires { Got (read_item (Attributes height) (drop at self.now.bytes.now)) }
+        ensures { result ≡ holds (λ f. well_formed_type f.1.1 (schema_in self.now)) (read_item (Attributes height) (drop at self.now.bytes.now)) }
+    {
+        self.type_fits(text_end(self.bytes, at + 1), height)
+    }
+
+    // The type of tags, if there is one: not more than one.
+    pub(crate) fn tags_fit(&self, at: usize) -> bool
+        requires { Got (read_list (read_node 65 type) 0 (drop at self.now.bytes.now)) }
+        ensures { result ≡ (nat_le (length (types_at self.now.bytes.now at)) 1 && all (λ t. well_formed_type t (schema_in self.now)) (types_at self.now.bytes.now at)) }
+    {
+        if self.bytes[at] != 1 {
+            return true;
+        }
+        if self.bytes[node_end(self.bytes, at + 1, Kind::Type, PART_HEIGHT)] == 1 {
             return false;
         }
-        end = item_end(bytes, item, Listed::Attributes(height));
+        self.type_fits(at + 1, PART_HEIGHT)
     }
-    true
-}
-
-// The type of tags, if there is one: not more than one.
-pub(crate) fn tags_fit(bytes: &[u8], actions: usize, at: usize) -> bool
-    requires { (Stands bytes.now actions) × (Got (read_list (read_node 65 type) 0 (drop at bytes.now))) }
-    ensures { result ≡ (nat_le (length (types_at bytes.now at)) 1 && all (λ t. well_formed_type t (schema_at bytes.now actions)) (types_at bytes.now at)) }
-{
-    if bytes[at] != 1 {
-        return true;
-    }
-    if bytes[node_end(bytes, at + 1, Kind::Type, PART_HEIGHT)] == 1 {
-        return false;
-    }
-    type_fits(bytes, actions, at + 1, PART_HEIGHT)
 }

@@ -1,10 +1,13 @@
-// Names of entities in bytes that were read before, two of them compared: the type stands before the id.
+// Names of entities in bytes that were read before, two of them compared: the type stands before the id. Bytes and two places make no struct, for the
+// reason that stands in `texts`.
 ghost use Rattle.std.specs.Prelude.{◌≡◌, drop};
 ghost use Rattle.spec.specs.Basics.{less};
 ghost use Rattle.spec.specs.Values.{code_uid, same_uid};
-ghost use Rattle.schema_order.specs.Places.{Got, read_uid, uid_at};
+ghost use Rattle.reader.specs.Ends.{Got};
+ghost use Rattle.schema_order.specs.Places.{read_uid, uid_at};
 
-use crate::texts::{less_code, same_text, text_end};
+use crate::texts::{less_code, same_text};
+use reader::ends::text_end;
 
 // Whether the name at one place comes before that at another: the shorter type first, and then the shorter id.
 pub(crate) fn less_uid(bytes: &[u8], a: usize, b: usize) -> bool

@@ -13,7 +13,8 @@ use Rattle.values.proofs.Placed.{Lies, lies, lies_at, lies-move, lies-append, te
 use Rattle.types.specs.Held.{behind_row, next_at}
 use Rattle.types.proofs.Means.{mean, formed-plain, type-rows-mean}
 use Rattle.schema_rows.specs.Lists.{list_from, past, AllFrom, list_at, behind_list, ListIn, behind_uid}
-use Rattle.schema_rows.specs.Schemas.{type_depth, type_at, attr_types_at, RecordTypeIn, TypeIn, entry_attrs, entry_tags, behind_entry, entry_at, EntryIn, action_resources, action_ancestors, action_context, behind_action, action_at, ActionIn, schema_actions, SchemaRowsMean}
+use Rattle.schema_rows.specs.Entries.{type_depth, type_at, attr_types_at, RecordTypeIn, TypeIn, entry_attrs, entry_tags, behind_entry, entry_at, EntryIn, action_resources, action_ancestors, action_context, behind_action, action_at, ActionIn}
+use Rattle.schema_rows.specs.Schemas.{schema_actions, SchemaRowsMean}
 
 depth_is : 64 ≡ type_depth
 unfolding type_depth

@@ -1,3 +1,5 @@
 -- What the contracts cite.
 pub mod Lists
+pub mod Entries
+pub mod Read
 pub mod Schemas

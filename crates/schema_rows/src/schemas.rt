@@ -1,253 +1,120 @@
-// A schema by the places of what it is made of, and what is looked up in it.
-ghost use Rattle.std.specs.Prelude.{◌≡◌, ◌+◌, ◌^◌, ◌<◌, ◌||◌, length};
-ghost use Rattle.spec.specs.Basics.{is_some};
-ghost use Rattle.spec.specs.Types.{find_entity_type, find_action, is_action_type, known_type, known as is_known, tag_type};
-ghost use Rattle.spec.specs.Typecheck.{descendant_of, action_in};
-ghost use Rattle.values.specs.Held.{text_at, TextIn, uid_at, UIDIn};
-ghost use Rattle.schema_rows.specs.Schemas.{EntryIn, EntryIs, entry_at, ActionIn, ActionIs, action_at, schema_at, SchemaIn, schema_of, SchemaGood, EntryFound, ActionFound, TagFound, seeks, SeekIn, first_that};
+// A schema as it lies in the store, and what is looked up in it.
+ghost use Rattle.schema_rows.specs.Entries.{EntriesIn, EntriesIn-prop, ActionsIn, ActionsIn-prop};
 
-use crate::lists::{Part, Test, any_in, same_entities, skip_list};
-use types::CedarType;
-use types::nodes::{row_type, same_names};
+use crate::entries::{Action, Entry, action_at, entry_at, is_below};
+use crate::lists::{Text, Uid, any_in, find_in, same_entities, skip_list};
+use types::nodes::same_names;
 
-// The type of some entities: the places of its name, of the types above it, of its attributes and of the type of its tags; and what is behind it.
+// A store, and the places there of a schema's types of entities and of its actions.
 #[derive(Clone, Copy)]
-pub struct Entry {
-    pub name: usize,
-    pub ancestors: usize,
-    pub attrs: usize,
-    pub tags: usize,
-    pub next: usize,
-}
-
-// An action: the places of its name, of the types of its principals and resources, of the actions above it and of its context; and what is behind it.
-#[derive(Clone, Copy)]
-pub struct Action {
-    pub uid: usize,
-    pub principals: usize,
-    pub resources: usize,
-    pub ancestors: usize,
-    pub context: usize,
-    pub next: usize,
-}
-
-// The places of its types of entities and of its actions.
-#[derive(Clone, Copy)]
-pub struct Schema {
+pub struct Schema<'a> {
+    pub store: &'a [u64],
     pub entries: usize,
     pub actions: usize,
+    pub ghost entries_lie: { EntriesIn store.now entries } by { EntriesIn-prop store.now entries },
+    pub ghost actions_lie: { ActionsIn store.now actions } by { ActionsIn-prop store.now actions },
 }
 
-// Which action is looked for: by its name, by its type, by its type and that of something above it.
-#[derive(Clone, Copy)]
-pub enum Seek {
-    Uid(usize),
-    OfType(usize),
-    Below(usize, usize),
-}
+impl<'a> Schema<'a> {
+    ghost use Rattle.std.specs.Prelude.{◌≡◌};
+    ghost use Rattle.spec.specs.Types.{find_entity_type, find_action, is_action_type, known_type, known as is_known};
+    ghost use Rattle.spec.specs.Typecheck.{descendant_of, action_in};
+    ghost use Rattle.values.specs.Held.{text_at, TextIn, uid_at, UIDIn};
+    ghost use Rattle.schema_rows.specs.Read.{EntryFound, ActionFound};
+    ghost use Rattle.schema_rows.specs.Schemas.{schema_at, SchemaIn, schema_of};
 
-pub fn entry_at(store: &[u64], e: usize) -> Entry
-    requires { EntryIn store.now e }
-    ensures { EntryIs store.now e result }
-{
-    let ancestors = e + 1 + store[e] as usize;
-    let attrs = skip_list(store, Part::Text, ancestors);
-    let tags = skip_list(store, Part::Attr, attrs);
-    let next = skip_list(store, Part::Row, tags);
-    Entry {
-        name: e,
-        ancestors,
-        attrs,
-        tags,
-        next,
-    }
-}
-
-pub fn action_at(store: &[u64], e: usize) -> Action
-    requires { ActionIn store.now e }
-    ensures { ActionIs store.now e result }
-{
-    let id = e + 1 + store[e] as usize;
-    let principals = id + 1 + store[id] as usize;
-    let resources = skip_list(store, Part::Text, principals);
-    let ancestors = skip_list(store, Part::Text, resources);
-    let context = skip_list(store, Part::Uid, ancestors);
-    let next = skip_list(store, Part::Attr, context);
-    Action {
-        uid: e,
-        principals,
-        resources,
-        ancestors,
-        context,
-        next,
-    }
-}
-
-// The schema whose row lies at a place.
-pub fn schema_at(store: &[u64], p: usize) -> Schema
-    requires { SchemaIn store.now p }
-    ensures good { SchemaGood store.now result }
-    ensures is { schema_of store.now result ≡ schema_at store.now p }
-{
-    let mut left = store[p];
-    let mut e = p + 1;
-    while left > 0 {
-        e = entry_at(store, e).next;
-        left -= 1;
-    }
-    Schema {
-        entries: p,
-        actions: e,
-    }
-}
-
-// The type of entities that has a name.
-pub fn find_entity_type(store: &[u64], schema: Schema, name: usize) -> Option<Entry>
-    requires schema { SchemaGood store.now schema }
-    requires name { TextIn store.now name }
-    ensures { EntryFound store.now result (find_entity_type (text_at store.now name) (schema_of store.now schema)) }
-{
-    let mut left = store[schema.entries];
-    let mut e = schema.entries + 1;
-    while left > 0 {
-        let entry = entry_at(store, e);
-        if same_names(store, name, e) {
-            return Some(entry);
-        }
-        e = entry.next;
-        left -= 1;
-    }
-    None
-}
-
-fn is_sought(store: &[u64], seek: Seek, action: Action) -> bool
-    requires seek { SeekIn store.now seek }
-    requires action { ActionIn store.now action.uid }
-    requires is { ActionIs store.now action.uid action }
-    ensures { result ≡ seeks store.now seek (action_at store.now action.uid) }
-{
-    match seek {
-        Seek::Uid(u) => same_entities(store, u, action.uid),
-        Seek::OfType(n) => same_names(store, n, action.uid),
-        Seek::Below(t, u) => {
-            if !same_names(store, t, action.uid) {
-                return false;
-            }
-            any_in(store, Test::OfType(u), action.ancestors)
+    // The schema whose row lies at a place.
+    pub fn at(store: &'a [u64], p: usize) -> Self
+        requires { SchemaIn store.now p }
+        ensures store { result.store.now ≡ store.now }
+        ensures is { schema_of result ≡ schema_at store.now p }
+    {
+        Schema {
+            store,
+            entries: p,
+            actions: skip_list::<Entry>(store, p),
         }
     }
-}
 
-// The first action that is looked for.
-fn first_action(store: &[u64], schema: Schema, seek: Seek) -> Option<Action>
-    requires schema { SchemaGood store.now schema }
-    requires seek { SeekIn store.now seek }
-    ensures { ActionFound store.now result (first_that (seeks store.now seek) (schema_of store.now schema).acts) }
-{
-    let mut left = store[schema.actions];
-    let mut e = schema.actions + 1;
-    while left > 0 {
-        let action = action_at(store, e);
-        if is_sought(store, seek, action) {
-            return Some(action);
+    // The type of entities that has a name.
+    pub fn find_entity_type(&self, name: usize) -> Option<Entry>
+        requires { TextIn self.now.store.now name }
+        ensures { EntryFound self.now.store.now result (find_entity_type (text_at self.now.store.now name) (schema_of self.now)) }
+    {
+        let store = self.store;
+        let test = move |e| same_names(store, name, e);
+        let e = find_in::<Entry, _>(store, self.entries, test)?;
+        Some(entry_at(store, e))
+    }
+
+    // The action that has a name.
+    pub fn find_action(&self, uid: usize) -> Option<Action>
+        requires { UIDIn self.now.store.now uid }
+        ensures { ActionFound self.now.store.now result (find_action (uid_at self.now.store.now uid) (schema_of self.now)) }
+    {
+        let store = self.store;
+        let test = move |e| same_entities(store, uid, e);
+        let e = find_in::<Action, _>(store, self.actions, test)?;
+        Some(action_at(store, e))
+    }
+
+    // Whether some action is of a type.
+    pub fn is_action_type(&self, name: usize) -> bool
+        requires { TextIn self.now.store.now name }
+        ensures { result ≡ is_action_type (text_at self.now.store.now name) (schema_of self.now) }
+    {
+        let store = self.store;
+        any_in::<Action, _>(store, self.actions, move |e| same_names(store, name, e))
+    }
+
+    // Whether the schema knows a type: of entities, or of actions.
+    pub fn known_type(&self, name: usize) -> bool
+        requires { TextIn self.now.store.now name }
+        ensures { result ≡ known_type (schema_of self.now) (text_at self.now.store.now name) }
+    {
+        self.find_entity_type(name).is_some() || self.is_action_type(name)
+    }
+
+    // Whether the schema can know an entity: its type is one of entities, or it is an action.
+    pub fn known(&self, uid: usize) -> bool
+        requires { UIDIn self.now.store.now uid }
+        ensures { result ≡ is_known (schema_of self.now) (uid_at self.now.store.now uid) }
+    {
+        self.find_entity_type(uid).is_some() || self.find_action(uid).is_some()
+    }
+
+    // Whether an entity of the first type can be in one of the second.
+    pub fn descendant_of(&self, t: usize, u: usize) -> bool
+        requires first { TextIn self.now.store.now t }
+        requires second { TextIn self.now.store.now u }
+        ensures { result ≡ descendant_of (text_at self.now.store.now t) (text_at self.now.store.now u) (schema_of self.now) }
+    {
+        let store = self.store;
+        if same_names(store, t, u) {
+            return true;
         }
-        e = action.next;
-        left -= 1;
+        if let Some(entry) = self.find_entity_type(t) {
+            let test = move |e| same_names(store, u, e);
+            return any_in::<Text, _>(store, entry.ancestors, test);
+        }
+        let test = move |e| is_below(store, e, t, u);
+        any_in::<Action, _>(store, self.actions, test)
     }
-    None
-}
 
-// The action that has a name.
-pub fn find_action(store: &[u64], schema: Schema, uid: usize) -> Option<Action>
-    requires schema { SchemaGood store.now schema }
-    requires uid { UIDIn store.now uid }
-    ensures { ActionFound store.now result (find_action (uid_at store.now uid) (schema_of store.now schema)) }
-{
-    first_action(store, schema, Seek::Uid(uid))
-}
-
-// Whether some action is of a type.
-pub fn is_action_type(store: &[u64], schema: Schema, name: usize) -> bool
-    requires schema { SchemaGood store.now schema }
-    requires name { TextIn store.now name }
-    ensures { result ≡ is_action_type (text_at store.now name) (schema_of store.now schema) }
-{
-    match first_action(store, schema, Seek::OfType(name)) {
-        Some(_) => true,
-        None => false,
-    }
-}
-
-// Whether the schema knows a type: of entities, or of actions.
-pub fn known_type(store: &[u64], schema: Schema, name: usize) -> bool
-    requires schema { SchemaGood store.now schema }
-    requires name { TextIn store.now name }
-    ensures { result ≡ known_type (schema_of store.now schema) (text_at store.now name) }
-{
-    match find_entity_type(store, schema, name) {
-        Some(_) => true,
-        None => is_action_type(store, schema, name),
-    }
-}
-
-// Whether the schema can know an entity: its type is one of entities, or it is an action.
-pub fn known(store: &[u64], schema: Schema, uid: usize) -> bool
-    requires schema { SchemaGood store.now schema }
-    requires uid { UIDIn store.now uid }
-    ensures { result ≡ is_known (schema_of store.now schema) (uid_at store.now uid) }
-{
-    if let Some(_) = find_entity_type(store, schema, uid) {
-        return true;
-    }
-    match find_action(store, schema, uid) {
-        Some(_) => true,
-        None => false,
-    }
-}
-
-// The type that the tags of an entity have, if it may have any.
-pub fn tag_type(store: &[u64], entry: Entry) -> Option<CedarType>
-    requires good { EntryIn store.now entry.name }
-    requires is { EntryIs store.now entry.name entry }
-    ensures { TagFound store.now result (tag_type (entry_at store.now entry.name)) }
-{
-    if store[entry.tags] == 0 {
-        return None;
-    }
-    Some(row_type(store, entry.tags + 1))
-}
-
-// Whether an entity of the first type can be in one of the second.
-pub fn descendant_of(store: &[u64], schema: Schema, t: usize, u: usize) -> bool
-    requires schema { SchemaGood store.now schema }
-    requires first { TextIn store.now t }
-    requires second { TextIn store.now u }
-    ensures { result ≡ descendant_of (text_at store.now t) (text_at store.now u) (schema_of store.now schema) }
-{
-    if same_names(store, t, u) {
-        return true;
-    }
-    if let Some(entry) = find_entity_type(store, schema, t) {
-        return any_in(store, Test::SameText(u), entry.ancestors);
-    }
-    match first_action(store, schema, Seek::Below(t, u)) {
-        Some(_) => true,
-        None => false,
-    }
-}
-
-// Whether an action is in another.
-pub fn action_in(store: &[u64], schema: Schema, u: usize, v: usize) -> bool
-    requires schema { SchemaGood store.now schema }
-    requires first { UIDIn store.now u }
-    requires second { UIDIn store.now v }
-    ensures { result ≡ action_in (uid_at store.now u) (uid_at store.now v) (schema_of store.now schema) }
-{
-    if same_entities(store, u, v) {
-        return true;
-    }
-    match find_action(store, schema, u) {
-        Some(action) => any_in(store, Test::SameUid(v), action.ancestors),
-        None => false,
+    // Whether an action is in another.
+    pub fn action_in(&self, u: usize, v: usize) -> bool
+        requires first { UIDIn self.now.store.now u }
+        requires second { UIDIn self.now.store.now v }
+        ensures { result ≡ action_in (uid_at self.now.store.now u) (uid_at self.now.store.now v) (schema_of self.now) }
+    {
+        let store = self.store;
+        if same_entities(store, u, v) {
+            return true;
+        }
+        let Some(action) = self.find_action(u) else {
+            return false;
+        };
+        let test = move |e| same_entities(store, v, e);
+        any_in::<Uid, _>(store, action.ancestors, test)
     }
 }

@@ -4,5 +4,6 @@ pub mod Splits
 pub mod Laid
 pub mod Spotted
 pub mod Walks
+pub mod Halves
 pub mod Tables
 pub mod Offsets

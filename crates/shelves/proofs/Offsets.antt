@@ -2,7 +2,7 @@
 use Rattle.std.proofs.Common.{◌≡◌, ℕ, zero, suc, ◌+◌, ◌-◌, ◌<◌, ◌≤◌, List, [], ◌∷◌, ◌++◌, length, get_or, take, drop, sym, refl, ap, ◌∙◌, append_assoc, arith}
 use Rattle.std.proofs.lemmas.List.{length-append, length-drop, length-take-le, get_or-drop, drop-drop, take_at, drop_at, get_or_append_left}
 use Rattle.shelves.specs.Items.{Item, numbers, laid, offsets}
-use Rattle.shelves.specs.Spots.{there, before, here, behind, Place}
+use Rattle.shelves.specs.Spots.{there, taken, before, here, behind, Place}
 use Rattle.shelves.specs.Moves.{raised, rest, tabled_with, tabled_without}
 use Rattle.shelves.specs.declared.finding.Spot.{Spot}
 use Rattle.shelves.proofs.Laid.{laid-append, length-offsets}
@@ -46,7 +46,7 @@ module _ (from : ℕ) (xs : List Item) (s : Spot) (t beyond : List ℕ) (is : t 
   S = offsets o (here s xs)
 
   abbrev B : List ℕ
-  B = offsets (o + s.old) (behind s xs)
+  B = offsets (o + (taken s).numbers) (behind s xs)
 
   A-long : length A ≡ s.index
   A-long = length-offsets 0 (before s xs) ∙ (length-here xs s p.within).0
@@ -55,7 +55,7 @@ module _ (from : ℕ) (xs : List Item) (s : Spot) (t beyond : List ℕ) (is : t 
   S-long = length-offsets o (here s xs) ∙ (length-here xs s p.within).1
 
   B-long : length B ≡ length xs - (s.index + there s)
-  B-long = length-offsets (o + s.old) (behind s xs) ∙ (length-here xs s p.within).2
+  B-long = length-offsets (o + (taken s).numbers) (behind s xs) ∙ (length-here xs s p.within).2
 
   t-is : t ≡ A ++ (S ++ (B ++ beyond))
   t-is =
@@ -75,34 +75,34 @@ module _ (from : ℕ) (xs : List Item) (s : Spot) (t beyond : List ℕ) (is : t 
 
   -- an item comes
   pub table-with : (i : Item) (count place new : ℕ) → count ≡ length xs → place ≡ o → new ≡ length (numbers i) →
-      tabled_with t s.index (there s) count place s.old new ≡ offsets 0 (before s xs ++ (i ∷ behind s xs)) ++ drop (s.index + 1 + (count - (s.index + there s))) t
+      tabled_with t s.index (there s) count place (taken s).numbers new ≡ offsets 0 (before s xs ++ (i ∷ behind s xs)) ++ drop (s.index + 1 + (count - (s.index + there s))) t
   table-with i count place new c q e =
       let D : List ℕ = drop (s.index + 1 + (count - (s.index + there s))) t in
-      let r : raised s.old new (rest t (s.index + there s) count) ≡ offsets (o + new) (behind s xs) = ap (raised s.old new) (last-part count c) ∙ offsets-raise o s.old new (behind s xs) in
+      let r : raised (taken s).numbers new (rest t (s.index + there s) count) ≡ offsets (o + new) (behind s xs) = ap (raised (taken s).numbers new) (last-part count c) ∙ offsets-raise o (taken s).numbers new (behind s xs) in
       let z : 0 + o ≡ o = omega arith in
       let w : offsets 0 (before s xs ++ (i ∷ behind s xs)) ≡ A ++ (o ∷ offsets (o + new) (behind s xs)) =
       offsets-append 0 (before s xs) (i ∷ behind s xs) ∙ ap (λ n. A ++ offsets n (i ∷ behind s xs)) z ∙ ap (λ n. A ++ (o ∷ offsets (o + n) (behind s xs))) (sym e) in
-      ap (λ l. l ++ (place ∷ (raised s.old new (rest t (s.index + there s) count) ++ D))) first_part
-      ∙ ap (λ n. A ++ (n ∷ (raised s.old new (rest t (s.index + there s) count) ++ D))) q
+      ap (λ l. l ++ (place ∷ (raised (taken s).numbers new (rest t (s.index + there s) count) ++ D))) first_part
+      ∙ ap (λ n. A ++ (n ∷ (raised (taken s).numbers new (rest t (s.index + there s) count) ++ D))) q
       ∙ ap (λ l. A ++ (o ∷ (l ++ D))) r ∙ sym (append_assoc A (o ∷ offsets (o + new) (behind s xs)) D) ∙ ap (λ l. l ++ D) (sym w)
 
   -- an item goes
   pub table-without : (count : ℕ) → count ≡ length xs → there s ≡ 1 →
-      tabled_without t s.index count s.old ≡ offsets 0 (before s xs ++ behind s xs) ++ drop (s.index + (count - (s.index + 1))) t
+      tabled_without t s.index count (taken s).numbers ≡ offsets 0 (before s xs ++ behind s xs) ++ drop (s.index + (count - (s.index + 1))) t
   table-without count c g =
       let D : List ℕ = drop (s.index + (count - (s.index + 1))) t in
-      let r : raised s.old 0 (rest t (s.index + 1) count) ≡ offsets (o + 0) (behind s xs) =
-      ap (λ n. raised s.old 0 (rest t (s.index + n) count)) (sym g) ∙ ap (raised s.old 0) (last-part count c) ∙ offsets-raise o s.old 0 (behind s xs) in
+      let r : raised (taken s).numbers 0 (rest t (s.index + 1) count) ≡ offsets (o + 0) (behind s xs) =
+      ap (λ n. raised (taken s).numbers 0 (rest t (s.index + n) count)) (sym g) ∙ ap (raised (taken s).numbers 0) (last-part count c) ∙ offsets-raise o (taken s).numbers 0 (behind s xs) in
       let z : 0 + o ≡ o + 0 = omega arith in
       let w : offsets 0 (before s xs ++ behind s xs) ≡ A ++ offsets (o + 0) (behind s xs) = offsets-append 0 (before s xs) (behind s xs) ∙ ap (λ n. A ++ offsets n (behind s xs)) z in
-      ap (λ l. l ++ (raised s.old 0 (rest t (s.index + 1) count) ++ D)) first_part
+      ap (λ l. l ++ (raised (taken s).numbers 0 (rest t (s.index + 1) count) ++ D)) first_part
       ∙ ap (λ l. A ++ (l ++ D)) r ∙ sym (append_assoc A (offsets (o + 0) (behind s xs)) D) ∙ ap (λ l. l ++ D) (sym w)
 
-  pub table-bounds : (j : ℕ) → s.index + there s ≤ j → j < length xs → (s.old ≤ get_or t j 0) × (get_or t j 0 ≤ length (laid xs))
+  pub table-bounds : (j : ℕ) → s.index + there s ≤ j → j < length xs → ((taken s).numbers ≤ get_or t j 0) × (get_or t j 0 ≤ length (laid xs))
   table-bounds j lo hi =
       let k : ℕ = s.index + there s in
       let q = (length-here xs s p.within).2 in
-      let x = offsets-bounds (o + s.old) (behind s xs) (j - k) (omega arith) in
+      let x = offsets-bounds (o + (taken s).numbers) (behind s xs) (j - k) (omega arith) in
       let e : get_or t j 0 ≡ get_or B (j - k) 0 =
       ap (λ z. get_or t z 0) (omega arith) ∙ sym (get_or-drop k t (j - k) 0) ∙ ap (λ l. get_or l (j - k) 0) past ∙ get_or_append_left B beyond 0 (j - k) (omega (arith, B-long)) in
       let a = ap (λ l. length (laid l)) (three xs s.index (there s)) ∙ ap length (laid-append (before s xs) (here s xs ++ behind s xs)) ∙ length-append (laid (before s xs)) (laid (here s xs ++ behind s xs)) in

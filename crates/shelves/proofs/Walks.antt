@@ -1,16 +1,17 @@
 -- A walk along items, and a search by halves among them.
-use Rattle.std.proofs.Common.{◌≡◌, ℕ, ◌+◌, ◌<◌, ◌≤◌, true, List, [], ◌++◌, length, get_or, take, drop, sym, ap, ◌∙◌, subst, append_assoc, arith}
+use Rattle.std.specs.declared.cmp.Ordering.TheVariants.{Less, Equal, Greater}
+use Rattle.std.specs.declared.cmp.Ordering.{Ordering}
+use Rattle.std.proofs.Common.{◌≡◌, ℕ, ◌+◌, ◌<◌, ◌≤◌, true, List, [], ◌++◌, length, get_or, take, drop, Some, None, sym, ap, ◌∙◌, subst, append_assoc, arith}
 use Rattle.std.proofs.lemmas.List.{length-append, length-drop, drop-append-le, drop_all, get_or-drop, get_or_append_left}
 use Rattle.spec.specs.Basics.{Text, less}
 use Rattle.laws.proofs.Keyed.{Before, Sorted, ascending-sorted}
 use Rattle.values.specs.Held.{text_at, TextIn, uid_at, UIDIn}
 use Rattle.values.specs.Order.{order_row}
-use Rattle.values.specs.declared.ordering.Order.{Order}
-use Rattle.values.specs.declared.ordering.Order.TheVariants.{Less, Same, Greater}
 use Rattle.values.proofs.Orders.{is-less, less-row, same_row}
 use Rattle.values.proofs.Rising.{flip-row}
 use Rattle.shelves.specs.Items.{Item, items_at, id_key, IdIn, UidIn, offsets, Shelf, Tabled}
 use Rattle.shelves.specs.Spots.{Found, EntryAt, EntryOf}
+use Rattle.shelves.specs.declared.finding.Extent.{Extent}
 use Rattle.shelves.specs.declared.finding.Spot.{Spot}
 use Rattle.shelves.specs.declared.finding.Entry.{Entry}
 use Rattle.shelves.proofs.Splits.{Under, under-append, before_more, nth, sorted-behind, sorted-under, under_same}
@@ -24,9 +25,9 @@ row-less x y e = less-row x y ∙ ap is-less e
 pub row-greater : (x y : Text) → order_row x y ≡ Greater → less y x ≡ true
 row-greater x y e = less-row y x ∙ ap is-less (flip-row x y ∙ ap flipped e)
   where
-    flipped : Order → Order
+    flipped : Ordering → Ordering
     flipped Less = Greater
-    flipped Same = Same
+    flipped Equal = Equal
     flipped Greater = Less
 
 module _ (key : Item → Text) (KeyIn : Item → Type 0) (m : List ℕ) (from count : ℕ) (t : Text) (shelf : Shelf key KeyIn m from count) where
@@ -59,10 +60,10 @@ module _ (key : Item → Text) (KeyIn : Item → Type 0) (m : List ℕ) (from co
         let l = row-less t (key one) e in
         rw n.rest (l, before_more key t (key one) (drop (k + 1) xs) l (sorted-behind key (take k xs) one (drop (k + 1) xs) (rw (← n.split) sorted)))
 
-    pub same_here : order_row t (key one) ≡ Same → key one ≡ t
+    pub same_here : order_row t (key one) ≡ Equal → key one ≡ t
     same_here e = sym (same_row t (key one) e)
 
-    pub under-here : order_row t (key one) ≡ Same → Under key t (take k xs)
+    pub under-here : order_row t (key one) ≡ Equal → Under key t (take k xs)
     under-here e =
         let n = nth xs k under_all in
         under_same key t (take k xs) one (drop (k + 1) xs) (rw (← n.split) sorted) (same_here e)
@@ -109,17 +110,17 @@ module _ (key : Item → Text) (KeyIn : Item → Type 0) (m : List ℕ) (from co
   pub going : (k at : ℕ) → at ≡ place_of from xs k → Under key t (take k xs) → Going k at
   going k at e u = (e, u, λ h. fits-here k h at e)
 
-  pub new-here : (s : Spot) → s.index ≤ count → Going s.index s.at → s.old ≡ 0 → s.size ≡ 0 → Before key t (drop s.index xs) → Found key from xs t s
-  new-here s l g o z b = found-new key from xs t s g.1 (omega (arith, many)) g.0 o z b
+  pub new-here : (s : Spot) → s.index ≤ count → Going s.index s.at → s.item ≡ None → Before key t (drop s.index xs) → Found key from xs t s
+  new-here s l g n b = found-new key from xs t s g.1 (omega (arith, many)) g.0 n b
 
   pub none_left : (k : ℕ) → count ≤ k → Before key t (drop k xs)
   none_left k h = rw (drop_all k xs (omega (arith, many))) tt
 
-  pub there-here : (s : Spot) (h : s.index < count) → Going s.index s.at → s.old ≡ 2 + get_or m s.at 0 → s.size ≡ get_or m (s.at + 1) 0 → order_row t (key (one s.index h)) ≡ Same → Found key from xs t s
-  there-here s h g o z e =
+  pub there-here : (s : Spot) (h : s.index < count) → Going s.index s.at → (x : Extent) → s.item ≡ Some x → x.numbers ≡ 2 + get_or m s.at 0 → x.size ≡ get_or m (s.at + 1) 0 → order_row t (key (one s.index h)) ≡ Equal → Found key from xs t s
+  there-here s h g x i o z e =
       let k : ℕ = s.index in
       let l = lies k h s.at g.0 in
-      found-there key from xs t s g.1 (under_all k h) g.0 (omega (arith, lies-length m s.at (one k h) l)) (omega (arith, lies-size m s.at (one k h) l)) (same_here k h e)
+      found-there key from xs t s g.1 (under_all k h) g.0 x i (omega (arith, lies-length m s.at (one k h) l)) (omega (arith, lies-size m s.at (one k h) l)) (same_here k h e)
 
 -- the keys in memory
 module _ (store work : List ℕ) (at : ℕ) (x : Item) (l : Lies store at x) where

@@ -1,13 +1,26 @@
 -- Where an item is among others, or where it would be. Assumes nothing: these are definitions.
-use Rattle.std.specs.Prelude.{◌≡◌, ℕ, ◌+◌, ◌≤◌, min, List, ◌∷◌, ◌++◌, length, take, drop, slice_index}
+use Rattle.std.specs.Prelude.{◌≡◌, ℕ, ◌+◌, ◌≤◌, List, ◌∷◌, ◌++◌, length, take, drop, Some, None, Option, slice_index}
 use Rattle.spec.specs.Basics.{Text, first, insert, remove, find}
 use Rattle.shelves.specs.Items.{Item, laid, sizes}
+use Rattle.shelves.specs.declared.finding.Extent.{Extent}
 use Rattle.shelves.specs.declared.finding.Spot.{Spot}
 use Rattle.shelves.specs.declared.finding.Entry.{Entry}
 
 -- one, if an item is there, and else none
+abbrev pub there_of : Option Extent → ℕ
+there_of (Some e) = 1
+there_of None = 0
+
 abbrev pub there : Spot → ℕ
-there s = min s.old 1
+there s = there_of s.item
+
+-- what it takes, or nothing
+abbrev pub taken_of : Option Extent → Extent
+taken_of (Some e) = e
+taken_of None = record { numbers = 0; size = 0 }
+
+abbrev pub taken : Spot → Extent
+taken s = taken_of s.item
 
 abbrev pub before : Spot → List Item → List Item
 before s xs = take s.index xs
@@ -22,15 +35,15 @@ behind s xs = drop (s.index + there s) xs
 pub record Place (from : ℕ) (xs : List Item) (s : Spot) : Type 0 where
   pub within : s.index + there s ≤ length xs
   pub at-is : s.at ≡ from + length (laid (before s xs))
-  pub old-is : s.old ≡ length (laid (here s xs))
-  pub size_is : s.size ≡ sizes (here s xs)
+  pub old-is : (taken s).numbers ≡ length (laid (here s xs))
+  pub size_is : (taken s).size ≡ sizes (here s xs)
 
 -- the spot of a key: what has the key, what one more with the key leaves, how large all are then, and what is left without it
 pub record Found (key : Item → Text) (from : ℕ) (xs : List Item) (t : Text) (s : Spot) : Type 0 where
   pub place : Place from xs s
   pub finds : find key t xs ≡ first (here s xs)
   pub puts : (i : Item) → key i ≡ t → insert key i xs ≡ before s xs ++ (i ∷ behind s xs)
-  pub weighs : (i : Item) → key i ≡ t → sizes (insert key i xs) + s.size ≡ sizes xs + i.size
+  pub weighs : (i : Item) → key i ≡ t → sizes (insert key i xs) + (taken s).size ≡ sizes xs + i.size
   pub removes : remove key t xs ≡ before s xs ++ behind s xs
 
 -- ---- an item as it lies

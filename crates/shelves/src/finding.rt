@@ -1,120 +1,139 @@
 // Where an item is among others, or where it would be: by a text, along the items; by the name of an entity, by halves.
-ghost use Rattle.std.specs.Prelude.{◌≡◌, ◌+◌, ◌^◌, ◌<◌, ◌≤◌, ◌++◌, length, take, slice_index};
+ghost use Rattle.std.specs.Prelude.{◌≡◌, ◌+◌, ◌<◌, ◌≤◌, length, take, slice_index};
 ghost use Rattle.spec.specs.Values.{code_uid};
+ghost use Rattle.values.specs.Memory.{numbers};
+ghost use Rattle.values.specs.Order.{order_uid};
 ghost use Rattle.values.specs.Held.{text_at, TextIn, uid_at, UIDIn};
 ghost use Rattle.shelves.specs.Items.{laid, items_at, id_key, IdIn, uid_key, UidIn, Shelf, Tabled};
-ghost use Rattle.shelves.specs.Spots.{Found, EntryAt};
+ghost use Rattle.shelves.specs.Spots.{there, taken, Found, EntryAt};
 
-use values::Order;
+use crate::table::Table;
+use std::cmp::Ordering;
+use values::Memory;
+use values::search::binary_search;
 use values::texts::{compare_names, compare_uids};
 
-#[derive(Clone, Copy)]
+// What an item takes: its numbers, and its size.
+#[derive(Clone, Copy, Debug, PartialEq, Eq)]
+pub struct Extent {
+    pub numbers: usize,
+    pub size: usize,
+}
+
+impl Extent {
+    // no Default: this name says more than `Extent::default()` would where it is used
+    pub const NOTHING: Extent = Extent {
+        numbers: 0,
+        size: 0,
+    };
+}
+
+#[derive(Clone, Copy, Debug, PartialEq, Eq)]
 pub struct Spot {
     // how many have a lesser key
     pub index: usize,
     // where it begins, or would begin
     pub at: usize,
-    // how many numbers the item takes that is there, or 0
-    pub old: usize,
-    // and its size, or 0
-    pub size: usize,
+    // the item that is there
+    pub item: Option<Extent>,
+}
+
+impl Spot {
+    // How many items are there: one or none.
+    pub fn count(self) -> usize
+        ensures { result ≡ there self }
+    {
+        usize::from(self.item.is_some())
+    }
+
+    // What the item takes that is there, if there is one.
+    pub fn taken(self) -> Extent
+        ensures { result ≡ taken self }
+    {
+        self.item.unwrap_or(Extent::NOTHING)
+    }
 }
 
 // Among `count` items from a place on, one after the other: the text at the begin of each row is its key, and the one that is looked for lies at `key`.
-pub fn find_by_text(store: &[u64], work: &[u64], from: usize, count: usize, key: usize) -> Spot
-    requires small { length (store.now ++ work.now) < 2 ^ 64 }
-    requires shelf { Shelf id_key IdIn store.now from count }
-    requires key { TextIn (store.now ++ work.now) key }
-    ensures { Found id_key from (items_at store.now from count) (text_at (store.now ++ work.now) key) result }
+pub fn find_by_text(memory: &Memory<'_>, from: usize, count: usize, key: usize) -> Spot
+    requires shelf { Shelf id_key IdIn memory.now.store.now from count }
+    requires key { TextIn (numbers memory.now) key }
+    ensures { Found id_key from (items_at memory.now.store.now from count) (text_at (numbers memory.now) key) result }
 {
     let mut at = from;
-    for k in 0..count {
-        match compare_names(store, work, key, at + 2) {
-            Order::Less => return Spot {
-                index: k,
+    // rows have lengths of their own, so where an item begins is known from the one before it
+    for index in 0..count {
+        match compare_names(memory, key, at + 2) {
+            Ordering::Less => return Spot {
+                index,
                 at,
-                old: 0,
-                size: 0,
+                item: None,
             },
-            Order::Same => return Spot {
-                index: k,
+            Ordering::Equal => return Spot {
+                index,
                 at,
-                old: 2 + store[at] as usize,
-                size: store[at + 1] as usize,
+                item: Some(extent_at(memory.store, at)),
             },
-            Order::Greater => at += 2 + store[at] as usize,
+            Ordering::Greater => at += 2 + memory.store[at] as usize,
         }
     }
     Spot {
         index: count,
         at,
-        old: 0,
-        size: 0,
+        item: None,
     }
-}
-
-// Items with a table of where they begin: the first item is at `from`, the table at `places`.
-#[derive(Clone, Copy)]
-pub struct Table {
-    pub from: usize,
-    pub places: usize,
-    pub count: usize,
 }
 
 // Where the k-th item begins.
 pub fn place_at(store: &[u64], table: Table, k: usize) -> usize
-    requires small { length store.now < 2 ^ 64 }
     requires tabled { Tabled uid_key UidIn store.now table.from table.places table.count }
     requires under { k < table.count }
     ensures is { result ≡ table.from + length (laid (take k (items_at store.now table.from table.count))) }
     ensures fits { result + 2 + slice_index store.now result ≤ length store.now }
 {
-    table.from + store[table.places + k] as usize
+    table.place(store, k)
 }
 
-// The same as `find_by_text`, by the name of an entity at the begin of each row. Behind the last item is the place `end`.
-pub fn find_by_uid(store: &[u64], work: &[u64], table: Table, end: usize, key: usize) -> Spot
-    requires small { length (store.now ++ work.now) < 2 ^ 64 }
-    requires tabled { Tabled uid_key UidIn store.now table.from table.places table.count }
-    requires ends { end ≡ table.from + length (laid (items_at store.now table.from table.count)) }
-    requires key { UIDIn (store.now ++ work.now) key }
-    ensures { Found uid_key table.from (items_at store.now table.from table.count) (code_uid (uid_at (store.now ++ work.now) key)) result }
+// The same as `find_by_text`, by the name of an entity at the begin of each row. Behind the last item is the place `end`. It stands beside entities::find,
+// which goes by the same table and search: here items begin with two numbers, and what the clauses say of the table are other facts.
+pub fn find_by_uid(memory: &Memory<'_>, table: Table, end: usize, key: usize) -> Spot
+    requires tabled { Tabled uid_key UidIn memory.now.store.now table.from table.places table.count }
+    requires ends { end ≡ table.from + length (laid (items_at memory.now.store.now table.from table.count)) }
+    requires key { UIDIn (numbers memory.now) key }
+    ensures { Found uid_key table.from (items_at memory.now.store.now table.from table.count) (code_uid (uid_at (numbers memory.now) key)) result }
 {
-    let mut lo = 0;
-    let mut hi = table.count;
-    while lo < hi {
-        let k = lo + (hi - lo) / 2;
-        let at = place_at(store, table, k);
-        match compare_uids(store, work, key, at + 2) {
-            Order::Less => hi = k,
-            Order::Same => return Spot {
-                index: k,
+    let order = |k|
+        requires tabled { Tabled uid_key UidIn memory.now.store.now table.from table.places table.count }
+        requires key { UIDIn (numbers memory.now) key }
+        requires under { k < table.count }
+        ensures { result ≡ order_uid (uid_at (numbers memory.entry.now) key) (uid_at (numbers memory.entry.now) (table.from + length (laid (take k (items_at memory.entry.now.store.now table.from table.count))) + 2)) }
+    { compare_uids(memory, key, place_at(memory.store, table, k) + 2) };
+    match binary_search(table.count, order) {
+        Ok(index) => {
+            let at = place_at(memory.store, table, index);
+            Spot {
+                index,
                 at,
-                old: 2 + store[at] as usize,
-                size: store[at + 1] as usize,
-            },
-            Order::Greater => lo = k + 1,
+                item: Some(extent_at(memory.store, at)),
+            }
         }
-    }
-    if lo == table.count {
-        return Spot {
-            index: lo,
-            at: end,
-            old: 0,
-            size: 0,
-        };
-    }
-    let at = place_at(store, table, lo);
-    Spot {
-        index: lo,
-        at,
-        old: 0,
-        size: 0,
+        Err(index) => {
+            let at = if index == table.count {
+                end
+            } else {
+                place_at(memory.store, table, index)
+            };
+            Spot {
+                index,
+                at,
+                item: None,
+            }
+        }
     }
 }
 
 // An item as it lies: where its row is, how long that is, the item's size, and where the next item begins.
-#[derive(Clone, Copy)]
+#[derive(Clone, Copy, Debug, PartialEq, Eq)]
 pub struct Entry {
     pub row: usize,
     pub long: usize,
@@ -134,5 +153,18 @@ pub fn entry_at(store: &[u64], at: usize) -> Entry
         long,
         size: store[at + 1] as usize,
         next: row + long,
+    }
+}
+
+// What it takes.
+fn extent_at(store: &[u64], at: usize) -> Extent
+    requires { at + 2 + slice_index store.now at ≤ length store.now }
+    ensures numbers { result.numbers ≡ 2 + slice_index store.now at }
+    ensures size { result.size ≡ slice_index store.now (at + 1) }
+{
+    let entry = entry_at(store, at);
+    Extent {
+        numbers: 2 + entry.long,
+        size: entry.size,
     }
 }

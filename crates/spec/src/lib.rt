@@ -4,22 +4,16 @@
 ghost use Rattle.spec.specs.TwoDeeds.{ValidationTable, RequestTable, PremisesCanBeMet};
 
 // Which of seven policies are validated, and why the others are not.
-pub fn two_deeds_validation() -> u8
+pub fn two_deeds_validation()
     ensures { ValidationTable }
-{
-    0
-}
+{}
 
 // The answers to eight requests: the decision, its reasons, the errors, and whether request and entities fit.
-pub fn two_deeds_requests() -> u8
+pub fn two_deeds_requests()
     ensures { RequestTable }
-{
-    0
-}
+{}
 
 // A schema, policies, a request and entities that meet all that the soundness of validation asks for.
-pub fn two_deeds_premises() -> u8
+pub fn two_deeds_premises()
     ensures { PremisesCanBeMet }
-{
-    0
-}
+{}

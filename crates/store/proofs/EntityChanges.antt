@@ -1,17 +1,18 @@
 -- The store as an entity comes or goes.
-use Rattle.std.proofs.Common.{◌≡◌, ℕ, ◌+◌, ◌-◌, ◌*◌, ◌^◌, ◌<◌, ◌≤◌, min, List, [], ◌∷◌, ◌++◌, length, get_or, take, drop, set, sym, refl, ap, ◌∙◌, subst, ap₂, append_assoc, arith, take-add}
+use Rattle.std.proofs.Common.{◌≡◌, ℕ, ◌+◌, ◌-◌, ◌*◌, ◌^◌, ◌<◌, ◌≤◌, List, [], ◌∷◌, ◌++◌, length, get_or, take, drop, set, sym, refl, ap, ◌∙◌, subst, ap₂, append_assoc, arith, take-add}
 use borrow.Rule.Slice.PartMut.{put_mid}
 use Rattle.std.proofs.lemmas.List.{length-append, length-drop, length-take-le, take_rest, take_at, drop_at, drop_all, append-nil}
 use Rattle.spec.specs.Basics.{Text, insert, remove}
 use Rattle.laws.proofs.Stores.{ascending-insert, ascending-remove}
 use Rattle.copy.specs.Writing.{written}
 use Rattle.shelves.specs.Items.{numbers, laid, items_at, offsets, uid_key, UidIn, Tabled}
-use Rattle.shelves.specs.Spots.{there, before, here, behind, Place, Found, EntryAt, EntryOf}
+use Rattle.shelves.specs.Spots.{there, taken, before, here, behind, Place, Found, EntryAt, EntryOf}
 use Rattle.shelves.specs.Moves.{tabled_with, tabled_without}
+use Rattle.shelves.specs.declared.finding.Extent.{Extent}
 use Rattle.shelves.specs.declared.finding.Spot.{Spot}
 use Rattle.shelves.specs.declared.finding.Entry.{Entry}
 use Rattle.shelves.proofs.Walks.{entry_here}
-use Rattle.shelves.specs.declared.finding.Table.{Table}
+use Rattle.shelves.specs.declared.table.Table.{Table}
 use Rattle.shelves.proofs.Offsets.{table-with, table-without, table-bounds}
 use Rattle.store.specs.Sections.{Sections, entities_at, used_of, table_at, header, layout, sections, Ordered, Good, Holds}
 use Rattle.store.specs.Places.{header_row, Says, reopened}
@@ -20,6 +21,18 @@ use Rattle.store.specs.declared.layout.Header.{Header}
 use Rattle.store.proofs.Reading.{held_after, header_is, says, entity-table, bounds}
 use Rattle.store.proofs.Splices.{put, closed, whole_item}
 use Rattle.store.proofs.Putting.{sums, laid-three, laid-with, length-with, kept-with, laid-without, length_without, sizes-without, kept-without, Change, entity-change}
+
+-- ---- what the table asks for
+pub record InsertNeeds (t : List ℕ) (spot : Spot) (from count new : ℕ) : Type 0 where
+  pub within : spot.index + there spot ≤ count
+  pub old : count ≤ length t
+  pub room : count + 1 ≤ length t + there spot
+  pub behind : (j : ℕ) → spot.index + there spot ≤ j → j < count → ((taken spot).numbers ≤ get_or t j 0) × (get_or t j 0 + new < 2 ^ 64)
+
+pub record RemoveNeeds (t : List ℕ) (spot : Spot) (count : ℕ) : Type 0 where
+  pub under : spot.index < count
+  pub old : count ≤ length t
+  pub behind : (j : ℕ) → spot.index < j → j < count → ((taken spot).numbers ≤ get_or t j 0) × (get_or t j 0 < 2 ^ 64)
 
 -- ---- among the entities
 module _ (m : List ℕ) (g : Good m) (h : Header) (k : Says (sections m) h) where
@@ -119,16 +132,6 @@ module _ (m : List ℕ) (g : Good m) (h : Header) (k : Says (sections m) h) wher
         ∙ regroup (header (sections m)) (sections m).schema (laid (sections m).policies) (laid (sections m).entities) R
         ∙ ap (λ l. header (sections m) ++ (S ++ (l ++ R))) (laid-three (entities_at (sections m)) (sections m).entities spot p)
 
-  -- ---- what the table asks for
-  abbrev InsertNeeds : List ℕ → Spot → ℕ → ℕ → ℕ → Type 0
-  InsertNeeds t spot gone count new =
-      (gone ≤ 1)
-      × ((spot.index + gone ≤ count)
-      × ((count ≤ length t) × ((count + 1 ≤ length t + gone) × ((j : ℕ) → spot.index + gone ≤ j → j < count → (spot.old ≤ get_or t j 0) × (get_or t j 0 + new < 2 ^ 64)))))
-
-  abbrev RemoveNeeds : List ℕ → Spot → ℕ → Type 0
-  RemoveNeeds t spot count = (spot.index < count) × ((count ≤ length t) × ((j : ℕ) → spot.index < j → j < count → (spot.old ≤ get_or t j 0) × (get_or t j 0 < 2 ^ 64)))
-
   table_is : (b : ℕ) → b ≡ table_at h.capacity → drop b m ≡ offsets 0 (sections m).entities ++ g.behind
   table_is b e = ap (λ n. drop n m) (e ∙ ap table_at k.capacity-is) ∙ g.table
 
@@ -136,10 +139,10 @@ module _ (m : List ℕ) (g : Good m) (h : Header) (k : Says (sections m) h) wher
   abbrev pub header-with : Spot → ℕ → ℕ → ℕ → Header
   header-with spot gone n z = record {
     capacity = h.capacity;
-    size = h.size - spot.size + z;
+    size = h.size - (taken spot).size + z;
     policies = h.policies;
     entities = h.entities;
-    used = h.used - spot.old + (2 + n);
+    used = h.used - (taken spot).numbers + (2 + n);
     policy_count = h.policy_count;
     entity_count = h.entity_count - gone + 1;
     schema_size = h.schema_size;
@@ -147,15 +150,24 @@ module _ (m : List ℕ) (g : Good m) (h : Header) (k : Says (sections m) h) wher
     missing = h.missing;
   }
 
+  -- the header that the code makes
+  abbrev summed : Extent → ℕ → ℕ → Header
+  summed x n z = record h { size = h.size - x.size + z; used = h.used - x.numbers + n }
+
+  pub with-after : (spot : Spot) (n z gone : ℕ) (old : Extent) (w : Header) → old ≡ taken spot → w ≡ summed old (2 + n) z → record w { entity_count = h.entity_count - gone + 1 } ≡ header-with spot gone n z
+  with-after spot n z gone old w q e =
+      let put : Header → Header = λ w. record w { entity_count = h.entity_count - gone + 1 } in
+      ap put e ∙ ap (λ (x : Extent). put (summed x (2 + n) z)) q
+
   pub changes : (spot : Spot) (n z : ℕ) → Comes (sections m) (entities_at (sections m)) (sections m).entities spot n z → Change m h spot (2 + n) z × (h.entities ≤ spot.at) × (there spot ≤ h.entity_count)
-      × (2 * h.entity_count + spot.size ≤ h.size + 2 * there spot)
+      × (2 * h.entity_count + (taken spot).size ≤ h.size + 2 * there spot)
   changes spot n z c = entity-change m g h k spot (2 + n) z (let a = c.bounded in let b = c.least in omega arith) c.fits c.place
 
-  module _ (spot : Spot) (n z gone : ℕ) (c : Comes (sections m) (entities_at (sections m)) (sections m).entities spot n z) (e : gone ≡ min spot.old 1) (b : ℕ) (bt : b ≡ table_at h.capacity) where
-    pub insert-needs : InsertNeeds (take (length m - b) (drop b m)) spot gone h.entity_count (2 + n)
-    insert-needs = subst (λ t. InsertNeeds t spot gone h.entity_count (2 + n)) (sym (take_rest m b)) here-needs
+  module _ (spot : Spot) (n z gone : ℕ) (c : Comes (sections m) (entities_at (sections m)) (sections m).entities spot n z) (e : gone ≡ there spot) (b : ℕ) (bt : b ≡ table_at h.capacity) where
+    pub insert-needs : InsertNeeds (take (length m - b) (drop b m)) spot h.entities h.entity_count (2 + n)
+    insert-needs = subst (λ t. InsertNeeds t spot h.entities h.entity_count (2 + n)) (sym (take_rest m b)) here-needs
       where
-        bounded-here : (j : ℕ) → spot.index + gone ≤ j → j < h.entity_count → (spot.old ≤ get_or (drop b m) j 0) × (get_or (drop b m) j 0 + (2 + n) < 2 ^ 64)
+        bounded-here : (j : ℕ) → spot.index + there spot ≤ j → j < h.entity_count → ((taken spot).numbers ≤ get_or (drop b m) j 0) × (get_or (drop b m) j 0 + (2 + n) < 2 ^ 64)
         bounded-here j lo hi =
             let w = changes spot n z c in
             let q = k.entity-count-is in
@@ -164,7 +176,7 @@ module _ (m : List ℕ) (g : Good m) (h : Header) (k : Says (sections m) h) wher
             let r = bounds (sections m) g.ordered in
             (d.0, omega (arith, d.1, r.room, r.limit, w.0.used-new, w.0.limit, w.0.within))
 
-        here-needs : InsertNeeds (drop b m) spot gone h.entity_count (2 + n)
+        here-needs : InsertNeeds (drop b m) spot h.entities h.entity_count (2 + n)
         here-needs =
             let w = changes spot n z c in
             let l = length-drop b m in
@@ -176,10 +188,10 @@ module _ (m : List ℕ) (g : Good m) (h : Header) (k : Says (sections m) h) wher
             let o = k.capacity-is in
             let v = w.0.used-long in
             let r = w.0.few-entities in
-            (omega arith, (omega arith, (omega arith, (omega arith, bounded-here))))
+            record { within = omega arith; old = omega arith; room = omega arith; behind = bounded-here }
 
     -- the table and the memory with it
-    module _ (T : List ℕ) (tl : length T ≡ length (take (length m - b) (drop b m))) (te : T ≡ tabled_with (take (length m - b) (drop b m)) spot.index gone h.entity_count (spot.at - h.entities) spot.old (2 + n)) where
+    module _ (T : List ℕ) (tl : length T ≡ length (take (length m - b) (drop b m))) (te : T ≡ tabled_with (take (length m - b) (drop b m)) spot.index (there spot) h.entity_count (spot.at - h.entities) (taken spot).numbers (2 + n)) where
       module _ (row : List ℕ) (l : length row ≡ n) (f : Found uid_key (entities_at (sections m)) (sections m).entities (uid_key (item z row)) spot) where
         abbrev s' : Sections
         s' = with_entity (item z row) (sections m)
@@ -189,7 +201,7 @@ module _ (m : List ℕ) (g : Good m) (h : Header) (k : Says (sections m) h) wher
             let a = k.entities-is in
             let w = changes spot n z c in
             let p = c.place.at-is in
-            te ∙ ap₂ (λ t x. tabled_with t spot.index x h.entity_count (spot.at - h.entities) spot.old (2 + n)) (take_rest m b) e
+            te ∙ ap (λ t. tabled_with t spot.index (there spot) h.entity_count (spot.at - h.entities) (taken spot).numbers (2 + n)) (take_rest m b)
             ∙ table-with (entities_at (sections m)) (sections m).entities spot (drop b m) g.behind (table_is b bt) c.place (item z row) h.entity_count (spot.at - h.entities) (2 + n) k.entity-count-is (omega arith) (omega arith)
             ∙ ap (λ xs. offsets 0 xs ++ drop (spot.index + 1 + (h.entity_count - (spot.index + there spot))) (drop b m)) (sym (f.puts (item z row) refl))
 
@@ -236,7 +248,7 @@ module _ (m : List ℕ) (g : Good m) (h : Header) (k : Says (sections m) h) wher
               limit = o.limit;
             }
 
-        with-is : (M : List ℕ) → M ≡ reopened (under b bt T tl) (header-with spot gone n z) spot.at spot.old (2 + n) h.used → written M spot.at (numbers (item z row)) ≡ layout s' (drop (used_of s') (under b bt T tl))
+        with-is : (M : List ℕ) → M ≡ reopened (under b bt T tl) (header-with spot gone n z) spot.at (taken spot).numbers (2 + n) h.used → written M spot.at (numbers (item z row)) ≡ layout s' (drop (used_of s') (under b bt T tl))
         with-is M q =
             let N : List ℕ = numbers (item z row) in
             let D : List ℕ = drop (spot.at + (2 + n) + (length (A spot) + 0)) (under b bt T tl) in
@@ -248,14 +260,14 @@ module _ (m : List ℕ) (g : Good m) (h : Header) (k : Says (sections m) h) wher
             let x = length-append (sections m).schema (laid (sections m).policies) in
             let v : spot.at + (2 + n) + (length (A spot) + 0) ≡ used_of s' = omega arith in
             ap (λ x. written x spot.at N) q
-            ∙ put (header (sections m)) (header_row (header-with spot gone n z)) S (B spot) (laid (here spot (sections m).entities)) (A spot) [] (take (b - used_of (sections m)) g.rest ++ T) (under b bt T tl) spot.at spot.old (2 + n) h.used
+            ∙ put (header (sections m)) (header_row (header-with spot gone n z)) S (B spot) (laid (here spot (sections m).entities)) (A spot) [] (take (b - used_of (sections m)) g.rest ++ T) (under b bt T tl) spot.at (taken spot).numbers (2 + n) h.used
             (parts b bt T tl spot c.place) refl refl (omega arith) a.old-here (omega arith) (omega arith) N (omega arith)
             ∙ ap (λ x. x ++ (S ++ ((B spot ++ (N ++ A spot)) ++ D))) (header_is s' (header-with spot gone n z) says-with)
             ∙ ap (λ x. header s' ++ (S ++ (x ++ D))) (sym (laid-with uid_key UidIn (entities_at (sections m)) (sections m).entities spot (item z row) f))
             ∙ sym (regroup b bt T tl (header s') (sections m).schema (laid (sections m).policies) (laid s'.entities) D)
             ∙ ap (λ x. layout s' (drop x (under b bt T tl))) v
 
-      pub room : (M N : List ℕ) (to : ℕ) → M ≡ reopened (under b bt T tl) (header-with spot gone n z) spot.at spot.old (2 + n) h.used → length M ≡ length (under b bt T tl) → N ≡ set (set M spot.at n) (spot.at + 1) z → to ≡ spot.at + 2 → length N ≡ length (under b bt T tl) →
+      pub room : (M N : List ℕ) (to : ℕ) → M ≡ reopened (under b bt T tl) (header-with spot gone n z) spot.at (taken spot).numbers (2 + n) h.used → length M ≡ length (under b bt T tl) → N ≡ set (set M spot.at n) (spot.at + 1) z → to ≡ spot.at + 2 → length N ≡ length (under b bt T tl) →
           EntityRoom (sections m) N spot n z to
       room M N to q lm w t ln =
           let a = changes spot n z c in
@@ -273,10 +285,10 @@ module _ (m : List ℕ) (g : Good m) (h : Header) (k : Says (sections m) h) wher
   abbrev pub header-without : Spot → Header
   header-without spot = record {
     capacity = h.capacity;
-    size = h.size - spot.size;
+    size = h.size - (taken spot).size;
     policies = h.policies;
     entities = h.entities;
-    used = h.used - spot.old;
+    used = h.used - (taken spot).numbers;
     policy_count = h.policy_count;
     entity_count = h.entity_count - 1;
     schema_size = h.schema_size;
@@ -284,15 +296,24 @@ module _ (m : List ℕ) (g : Good m) (h : Header) (k : Says (sections m) h) wher
     missing = h.missing;
   }
 
-  module _ (spot : Spot) (p : Place (entities_at (sections m)) (sections m).entities spot) (some : 0 < spot.old) where
-    pub changes-without : Change m h spot 0 0 × (h.entities ≤ spot.at) × (there spot ≤ h.entity_count) × (2 * h.entity_count + spot.size ≤ h.size + 2 * there spot)
+  pub without-after : (spot : Spot) (old : Extent) (w : Header) → old ≡ taken spot → w ≡ summed old 0 0 → record w { entity_count = h.entity_count - 1 } ≡ header-without spot
+  without-after spot old w q e =
+      let put : Header → Header = λ w. record w { entity_count = h.entity_count - 1 } in
+      let x : Extent = taken spot in
+      let a : h.size - x.size + 0 ≡ h.size - x.size = omega arith in
+      let b : h.used - x.numbers + 0 ≡ h.used - x.numbers = omega arith in
+      ap put e ∙ ap (λ (x : Extent). put (summed x 0 0)) q
+      ∙ ap (λ (z : ℕ). put (record h { size = z; used = h.used - x.numbers + 0 })) a ∙ ap (λ (u : ℕ). put (record h { size = h.size - x.size; used = u })) b
+
+  module _ (spot : Spot) (p : Place (entities_at (sections m)) (sections m).entities spot) (one : there spot ≡ 1) where
+    pub changes-without : Change m h spot 0 0 × (h.entities ≤ spot.at) × (there spot ≤ h.entity_count) × (2 * h.entity_count + (taken spot).size ≤ h.size + 2 * there spot)
     changes-without = entity-change m g h k spot 0 0 (omega arith) (let a = g.ordered.small in omega arith) p
 
     module _ (b : ℕ) (bt : b ≡ table_at h.capacity) where
       pub remove-needs : RemoveNeeds (take (length m - b) (drop b m)) spot h.entity_count
       remove-needs = subst (λ t. RemoveNeeds t spot h.entity_count) (sym (take_rest m b)) here-needs
         where
-          bounded-here : (j : ℕ) → spot.index < j → j < h.entity_count → (spot.old ≤ get_or (drop b m) j 0) × (get_or (drop b m) j 0 < 2 ^ 64)
+          bounded-here : (j : ℕ) → spot.index < j → j < h.entity_count → ((taken spot).numbers ≤ get_or (drop b m) j 0) × (get_or (drop b m) j 0 < 2 ^ 64)
           bounded-here j lo hi =
               let q = k.entity-count-is in
               let d = table-bounds (entities_at (sections m)) (sections m).entities spot (drop b m) g.behind (table_is b bt) p j (omega arith) (omega arith) in
@@ -306,16 +327,16 @@ module _ (m : List ℕ) (g : Good m) (h : Header) (k : Says (sections m) h) wher
               let l = length-drop b m in
               let v = p.within in
               let q = k.entity-count-is in
-              (omega arith, (omega (arith, w.0.used-long, w.0.few-entities, w.0.size_small), bounded-here))
+              record { under = omega arith; old = omega (arith, w.0.used-long, w.0.few-entities, w.0.size_small); behind = bounded-here }
 
-      module _ (T : List ℕ) (tl : length T ≡ length (take (length m - b) (drop b m))) (te : T ≡ tabled_without (take (length m - b) (drop b m)) spot.index h.entity_count spot.old)
+      module _ (T : List ℕ) (tl : length T ≡ length (take (length m - b) (drop b m))) (te : T ≡ tabled_without (take (length m - b) (drop b m)) spot.index h.entity_count (taken spot).numbers)
           (t : Text) (f : Found uid_key (entities_at (sections m)) (sections m).entities t spot) where
         abbrev s'' : Sections
         s'' = without_entity t (sections m)
 
         table-left : T ≡ offsets 0 s''.entities ++ drop (spot.index + (h.entity_count - (spot.index + 1))) (drop b m)
         table-left =
-            te ∙ ap (λ t. tabled_without t spot.index h.entity_count spot.old) (take_rest m b)
+            te ∙ ap (λ t. tabled_without t spot.index h.entity_count (taken spot).numbers) (take_rest m b)
             ∙ table-without (entities_at (sections m)) (sections m).entities spot (drop b m) g.behind (table_is b bt) p h.entity_count k.entity-count-is (omega arith)
             ∙ ap (λ xs. offsets 0 xs ++ drop (spot.index + (h.entity_count - (spot.index + 1))) (drop b m)) (sym f.removes)
 
@@ -357,7 +378,7 @@ module _ (m : List ℕ) (g : Good m) (h : Header) (k : Says (sections m) h) wher
               limit = o.limit;
             }
 
-        pub gone : (M : List ℕ) → M ≡ reopened (under b bt T tl) (header-without spot) spot.at spot.old 0 h.used → Holds M s''
+        pub gone : (M : List ℕ) → M ≡ reopened (under b bt T tl) (header-without spot) spot.at (taken spot).numbers 0 h.used → Holds M s''
         gone M q =
             let D : List ℕ = drop (spot.at + 0 + (length (A spot) + 0)) (under b bt T tl) in
             let a = sums (entities_at (sections m)) (sections m).entities spot p in
@@ -369,7 +390,7 @@ module _ (m : List ℕ) (g : Good m) (h : Header) (k : Says (sections m) h) wher
             let v : spot.at + 0 + (length (A spot) + 0) ≡ used_of s'' = omega arith in
             held_after s'' (under b bt T tl) M (drop (spot.index + (h.entity_count - (spot.index + 1))) (drop b m))
             (q
-            ∙ closed (header (sections m)) (header_row (header-without spot)) S (B spot) (laid (here spot (sections m).entities)) (A spot) [] (take (b - used_of (sections m)) g.rest ++ T) (under b bt T tl) spot.at spot.old 0 h.used
+            ∙ closed (header (sections m)) (header_row (header-without spot)) S (B spot) (laid (here spot (sections m).entities)) (A spot) [] (take (b - used_of (sections m)) g.rest ++ T) (under b bt T tl) spot.at (taken spot).numbers 0 h.used
             (parts b bt T tl spot p) refl refl (omega arith) a.old-here (omega arith) (omega arith) refl
             ∙ ap (λ x. x ++ (S ++ ((B spot ++ A spot) ++ D))) (header_is s'' (header-without spot) says-without)
             ∙ ap (λ x. header s'' ++ (S ++ (x ++ D))) (sym (laid-without uid_key UidIn (entities_at (sections m)) (sections m).entities spot t f))

@@ -1,11 +1,12 @@
 -- The store as a policy comes or goes.
-use Rattle.std.proofs.Common.{◌≡◌, ℕ, ◌+◌, ◌-◌, ◌<◌, ◌≤◌, min, List, [], ◌∷◌, ◌++◌, length, get_or, take, drop, set, sym, refl, ap, ◌∙◌, subst, ap₂, arith}
+use Rattle.std.proofs.Common.{◌≡◌, ℕ, ◌+◌, ◌-◌, ◌<◌, ◌≤◌, List, [], ◌∷◌, ◌++◌, length, get_or, take, drop, set, sym, refl, ap, ◌∙◌, subst, ap₂, arith}
 use Rattle.std.proofs.lemmas.List.{length-append}
 use Rattle.spec.specs.Basics.{Text, insert, remove}
 use Rattle.laws.proofs.Stores.{ascending-insert, ascending-remove}
 use Rattle.copy.specs.Writing.{written}
 use Rattle.shelves.specs.Items.{numbers, laid, items_at, id_key, IdIn, Shelf}
-use Rattle.shelves.specs.Spots.{there, before, here, behind, Place, Found, EntryAt, EntryOf}
+use Rattle.shelves.specs.Spots.{there, taken, before, here, behind, Place, Found, EntryAt, EntryOf}
+use Rattle.shelves.specs.declared.finding.Extent.{Extent}
 use Rattle.shelves.specs.declared.finding.Spot.{Spot}
 use Rattle.shelves.specs.declared.finding.Entry.{Entry}
 use Rattle.shelves.proofs.Walks.{fits-here, entry_here}
@@ -51,10 +52,10 @@ module _ (m : List ℕ) (g : Good m) (h : Header) (k : Says (sections m) h) wher
   abbrev pub header-with : Spot → ℕ → ℕ → ℕ → Header
   header-with spot gone n z = record {
     capacity = h.capacity;
-    size = h.size - spot.size + z;
+    size = h.size - (taken spot).size + z;
     policies = h.policies;
-    entities = h.entities - spot.old + (2 + n);
-    used = h.used - spot.old + (2 + n);
+    entities = h.entities - (taken spot).numbers + (2 + n);
+    used = h.used - (taken spot).numbers + (2 + n);
     policy_count = h.policy_count - gone + 1;
     entity_count = h.entity_count;
     schema_size = h.schema_size;
@@ -62,10 +63,21 @@ module _ (m : List ℕ) (g : Good m) (h : Header) (k : Says (sections m) h) wher
     missing = h.missing;
   }
 
-  pub changes : (spot : Spot) (n z : ℕ) → Comes (sections m) (policies_at (sections m)) (sections m).policies spot n z → Change m h spot (2 + n) z × (spot.at + spot.old ≤ h.entities) × (there spot ≤ h.policy_count)
+  -- the header that the code makes
+  abbrev summed : Extent → ℕ → ℕ → Header
+  summed x n z = record h { size = h.size - x.size + z; used = h.used - x.numbers + n }
+
+  abbrev after-with : Header → Extent → ℕ → ℕ → Header
+  after-with w x gone n = record w { entities = h.entities - x.numbers + (2 + n); policy_count = h.policy_count - gone + 1 }
+
+  pub with-after : (spot : Spot) (n z gone : ℕ) (old : Extent) (w : Header) → old ≡ taken spot → w ≡ summed old (2 + n) z → after-with w old gone n ≡ header-with spot gone n z
+  with-after spot n z gone old w q e =
+      ap (λ (w : Header). after-with w old gone n) e ∙ ap (λ (x : Extent). after-with (summed x (2 + n) z) x gone n) q
+
+  pub changes : (spot : Spot) (n z : ℕ) → Comes (sections m) (policies_at (sections m)) (sections m).policies spot n z → Change m h spot (2 + n) z × (spot.at + (taken spot).numbers ≤ h.entities) × (there spot ≤ h.policy_count)
   changes spot n z c = policy-change m g h k spot (2 + n) z (let a = c.bounded in let b = c.least in omega arith) c.fits c.place
 
-  module _ (spot : Spot) (n z gone : ℕ) (c : Comes (sections m) (policies_at (sections m)) (sections m).policies spot n z) (e : gone ≡ min spot.old 1) where
+  module _ (spot : Spot) (n z gone : ℕ) (c : Comes (sections m) (policies_at (sections m)) (sections m).policies spot n z) (e : gone ≡ there spot) where
     module _ (row : List ℕ) (l : length row ≡ n) (f : Found id_key (policies_at (sections m)) (sections m).policies (id_key (item z row)) spot) where
       abbrev s' : Sections
       s' = with_policy (item z row) (sections m)
@@ -113,7 +125,7 @@ module _ (m : List ℕ) (g : Good m) (h : Header) (k : Says (sections m) h) wher
             limit = o.limit;
           }
 
-      with-is : (M : List ℕ) → M ≡ reopened m (header-with spot gone n z) spot.at spot.old (2 + n) h.used → written M spot.at (numbers (item z row)) ≡ layout s' (drop (used_of s') m)
+      with-is : (M : List ℕ) → M ≡ reopened m (header-with spot gone n z) spot.at (taken spot).numbers (2 + n) h.used → written M spot.at (numbers (item z row)) ≡ layout s' (drop (used_of s') m)
       with-is M q =
           let a = sums (policies_at (sections m)) (sections m).policies spot c.place in
           let w = changes spot n z c in
@@ -121,13 +133,13 @@ module _ (m : List ℕ) (g : Good m) (h : Header) (k : Says (sections m) h) wher
           let u = says-with.used-is in
           let v : spot.at + (2 + n) + (length (A spot) + length E) ≡ used_of s' = omega arith in
           ap (λ x. written x spot.at (numbers (item z row))) q
-          ∙ put (header (sections m)) (header_row (header-with spot gone n z)) (sections m).schema (B spot) (laid (here spot (sections m).policies)) (A spot) E g.rest m spot.at spot.old (2 + n) h.used
+          ∙ put (header (sections m)) (header_row (header-with spot gone n z)) (sections m).schema (B spot) (laid (here spot (sections m).policies)) (A spot) E g.rest m spot.at (taken spot).numbers (2 + n) h.used
           (parts spot c.place) refl refl (omega arith) a.old-here (omega arith) (omega arith) (numbers (item z row)) (omega arith)
           ∙ ap (λ x. x ++ ((sections m).schema ++ ((B spot ++ (numbers (item z row) ++ A spot)) ++ (E ++ drop (spot.at + (2 + n) + (length (A spot) + length E)) m)))) (header_is s' (header-with spot gone n z) says-with)
           ∙ ap (λ x. header s' ++ ((sections m).schema ++ (x ++ (E ++ drop (spot.at + (2 + n) + (length (A spot) + length E)) m)))) (sym (laid-with id_key IdIn (policies_at (sections m)) (sections m).policies spot (item z row) f))
           ∙ ap (λ x. layout s' (drop x m)) v
 
-    pub room : (M N : List ℕ) (to : ℕ) → M ≡ reopened m (header-with spot gone n z) spot.at spot.old (2 + n) h.used → length M ≡ length m → N ≡ set (set M spot.at n) (spot.at + 1) z → to ≡ spot.at + 2 → length N ≡ length m →
+    pub room : (M N : List ℕ) (to : ℕ) → M ≡ reopened m (header-with spot gone n z) spot.at (taken spot).numbers (2 + n) h.used → length M ≡ length m → N ≡ set (set M spot.at n) (spot.at + 1) z → to ≡ spot.at + 2 → length N ≡ length m →
         PolicyRoom (sections m) N spot n z to
     room M N to q lm w t ln =
         let a = changes spot n z c in
@@ -144,10 +156,10 @@ module _ (m : List ℕ) (g : Good m) (h : Header) (k : Says (sections m) h) wher
   abbrev pub header-without : Spot → Header
   header-without spot = record {
     capacity = h.capacity;
-    size = h.size - spot.size;
+    size = h.size - (taken spot).size;
     policies = h.policies;
-    entities = h.entities - spot.old;
-    used = h.used - spot.old;
+    entities = h.entities - (taken spot).numbers;
+    used = h.used - (taken spot).numbers;
     policy_count = h.policy_count - 1;
     entity_count = h.entity_count;
     schema_size = h.schema_size;
@@ -155,8 +167,19 @@ module _ (m : List ℕ) (g : Good m) (h : Header) (k : Says (sections m) h) wher
     missing = h.missing;
   }
 
-  module _ (spot : Spot) (p : Place (policies_at (sections m)) (sections m).policies spot) (some : 0 < spot.old) where
-    pub changes-without : Change m h spot 0 0 × (spot.at + spot.old ≤ h.entities) × (there spot ≤ h.policy_count)
+  abbrev after-without : Header → Extent → Header
+  after-without w x = record w { entities = h.entities - x.numbers; policy_count = h.policy_count - 1 }
+
+  pub without-after : (spot : Spot) (old : Extent) (w : Header) → old ≡ taken spot → w ≡ summed old 0 0 → after-without w old ≡ header-without spot
+  without-after spot old w q e =
+      let x : Extent = taken spot in
+      let a : h.size - x.size + 0 ≡ h.size - x.size = omega arith in
+      let b : h.used - x.numbers + 0 ≡ h.used - x.numbers = omega arith in
+      ap (λ (w : Header). after-without w old) e ∙ ap (λ (x : Extent). after-without (summed x 0 0) x) q
+      ∙ ap (λ (z : ℕ). after-without (record h { size = z; used = h.used - x.numbers + 0 }) x) a ∙ ap (λ (u : ℕ). after-without (record h { size = h.size - x.size; used = u }) x) b
+
+  module _ (spot : Spot) (p : Place (policies_at (sections m)) (sections m).policies spot) (one : there spot ≡ 1) where
+    pub changes-without : Change m h spot 0 0 × (spot.at + (taken spot).numbers ≤ h.entities) × (there spot ≤ h.policy_count)
     changes-without = policy-change m g h k spot 0 0 (omega arith) (let a = g.ordered.small in omega arith) p
 
     module _ (t : Text) (f : Found id_key (policies_at (sections m)) (sections m).policies t spot) where
@@ -201,7 +224,7 @@ module _ (m : List ℕ) (g : Good m) (h : Header) (k : Says (sections m) h) wher
             limit = o.limit;
           }
 
-      pub gone : (M : List ℕ) → M ≡ reopened m (header-without spot) spot.at spot.old 0 h.used → Holds M s''
+      pub gone : (M : List ℕ) → M ≡ reopened m (header-without spot) spot.at (taken spot).numbers 0 h.used → Holds M s''
       gone M q =
           let a = sums (policies_at (sections m)) (sections m).policies spot p in
           let w = changes-without in
@@ -210,7 +233,7 @@ module _ (m : List ℕ) (g : Good m) (h : Header) (k : Says (sections m) h) wher
           let v : spot.at + 0 + (length (A spot) + length E) ≡ used_of s'' = omega arith in
           held_after s'' m M g.behind
           (q
-          ∙ closed (header (sections m)) (header_row (header-without spot)) (sections m).schema (B spot) (laid (here spot (sections m).policies)) (A spot) E g.rest m spot.at spot.old 0 h.used
+          ∙ closed (header (sections m)) (header_row (header-without spot)) (sections m).schema (B spot) (laid (here spot (sections m).policies)) (A spot) E g.rest m spot.at (taken spot).numbers 0 h.used
           (parts spot p) refl refl (omega arith) a.old-here (omega arith) (omega arith) refl
           ∙ ap (λ x. x ++ ((sections m).schema ++ ((B spot ++ A spot) ++ (E ++ drop (spot.at + 0 + (length (A spot) + length E)) m)))) (header_is s'' (header-without spot) says-without)
           ∙ ap (λ x. header s'' ++ ((sections m).schema ++ (x ++ (E ++ drop (spot.at + 0 + (length (A spot) + length E)) m)))) (sym (laid-without id_key IdIn (policies_at (sections m)) (sections m).policies spot t f))

@@ -3,7 +3,7 @@ use Rattle.std.proofs.Common.{◌≡◌, ℕ, ◌+◌, ◌*◌, ◌/◌, ◌≤�
 use Rattle.std.proofs.lemmas.List.{length-append}
 use Rattle.spec.specs.Basics.{Text, insert, remove}
 use Rattle.shelves.specs.Items.{Item, numbers, laid, sizes, IdIn, UidIn, Each}
-use Rattle.shelves.specs.Spots.{there, before, here, behind, Place, Found}
+use Rattle.shelves.specs.Spots.{there, taken, before, here, behind, Place, Found}
 use Rattle.shelves.specs.declared.finding.Spot.{Spot}
 use Rattle.shelves.proofs.Laid.{laid-append, sizes-append, each_append, each_take, each-drop}
 use Rattle.shelves.proofs.Spotted.{three}
@@ -17,9 +17,9 @@ use Rattle.store.proofs.Reading.{bounds}
 -- ---- the numbers of a spot
 pub record Sums (from : ℕ) (xs : List Item) (s : Spot) : Type 0 where
   pub start : s.at ≡ from + length (laid (before s xs))
-  pub old-here : length (laid (here s xs)) ≡ s.old
-  pub all : length (laid xs) ≡ length (laid (before s xs)) + (s.old + length (laid (behind s xs)))
-  pub size-all : s.size ≤ sizes xs
+  pub old-here : length (laid (here s xs)) ≡ (taken s).numbers
+  pub all : length (laid xs) ≡ length (laid (before s xs)) + ((taken s).numbers + length (laid (behind s xs)))
+  pub size-all : (taken s).size ≤ sizes xs
   pub index_is : length (before s xs) ≡ s.index
   pub behind-is : length (behind s xs) + (s.index + there s) ≡ length xs
 
@@ -66,7 +66,7 @@ module _ (key : Item → Text) (KeyIn : Item → Type 0) (from : ℕ) (xs : List
       let b = sums from xs s f.place in
       omega arith
 
-  pub sizes-without : sizes (remove key t xs) + s.size ≡ sizes xs
+  pub sizes-without : sizes (remove key t xs) + (taken s).size ≡ sizes xs
   sizes-without =
       let a = ap sizes f.removes ∙ sizes-append (before s xs) (behind s xs) in
       let z = ap sizes (three xs s.index (there s)) ∙ sizes-append (before s xs) (here s xs ++ behind s xs) in
@@ -80,7 +80,7 @@ module _ (key : Item → Text) (KeyIn : Item → Type 0) (from : ℕ) (xs : List
 
 -- ---- what the others take
 pub spare : (KeyIn : Item → Type 0) (from : ℕ) (xs : List Item) (s : Spot) → Place from xs s → Each (Kept KeyIn) xs →
-    (2 * (length (laid (before s xs)) + length (laid (behind s xs))) + 9 * s.size ≤ 9 * sizes xs) × (2 * (length (before s xs) + length (behind s xs)) + s.size ≤ sizes xs)
+    (2 * (length (laid (before s xs)) + length (laid (behind s xs))) + 9 * (taken s).size ≤ 9 * sizes xs) × (2 * (length (before s xs) + length (behind s xs)) + (taken s).size ≤ sizes xs)
 spare KeyIn from xs s p k =
     let a = bounded KeyIn (before s xs) (each_take (Kept KeyIn) s.index xs k) in
     let b = bounded KeyIn (behind s xs) (each-drop (Kept KeyIn) (s.index + there s) xs k) in
@@ -89,13 +89,13 @@ spare KeyIn from xs s p k =
     let w = p.size_is in
     (omega arith, omega arith)
 
--- ---- the arithmetic of a change: of `spot.old` numbers to new many, and of a size
+-- ---- the arithmetic of a change: of `(taken spot).numbers` numbers to new many, and of a size
 pub record Change (m : List ℕ) (h : Header) (spot : Spot) (new size : ℕ) : Type 0 where
   pub low : 10 ≤ spot.at
-  pub within : spot.at + spot.old ≤ h.used
-  pub size-le : spot.size ≤ h.size
-  pub size-new : h.size + size ≤ 16777216 + spot.size
-  pub used-new : h.used + new ≤ table_at h.capacity + spot.old
+  pub within : spot.at + (taken spot).numbers ≤ h.used
+  pub size-le : (taken spot).size ≤ h.size
+  pub size-new : h.size + size ≤ 16777216 + (taken spot).size
+  pub used-new : h.used + new ≤ table_at h.capacity + (taken spot).numbers
   pub used-long : table_at h.capacity + h.capacity / 2 ≤ length m
   pub used_le : h.used ≤ length m
   pub limit : h.capacity ≤ 16777216
@@ -103,8 +103,8 @@ pub record Change (m : List ℕ) (h : Header) (spot : Spot) (new size : ℕ) : T
   pub few-entities : 2 * h.entity_count ≤ h.size
   pub size_small : h.size ≤ h.capacity
 
-module _ (m : List ℕ) (g : Good m) (h : Header) (k : Says (sections m) h) (spot : Spot) (new size : ℕ) (b : 2 * new ≤ 9 * size) (f : size_of (sections m) + size ≤ (sections m).capacity + spot.size) where
-  pub policy-change : Place (policies_at (sections m)) (sections m).policies spot → Change m h spot new size × (spot.at + spot.old ≤ h.entities) × (there spot ≤ h.policy_count)
+module _ (m : List ℕ) (g : Good m) (h : Header) (k : Says (sections m) h) (spot : Spot) (new size : ℕ) (b : 2 * new ≤ 9 * size) (f : size_of (sections m) + size ≤ (sections m).capacity + (taken spot).size) where
+  pub policy-change : Place (policies_at (sections m)) (sections m).policies spot → Change m h spot new size × (spot.at + (taken spot).numbers ≤ h.entities) × (there spot ≤ h.policy_count)
   policy-change p =
       let a = sums (policies_at (sections m)) (sections m).policies spot p in
       let z = spare IdIn (policies_at (sections m)) (sections m).policies spot p g.ordered.policies-kept in
@@ -130,7 +130,7 @@ module _ (m : List ℕ) (g : Good m) (h : Header) (k : Says (sections m) h) (spo
       )
 
   pub entity-change : Place (entities_at (sections m)) (sections m).entities spot → Change m h spot new size × (h.entities ≤ spot.at) × (there spot ≤ h.entity_count)
-      × (2 * h.entity_count + spot.size ≤ h.size + 2 * there spot)
+      × (2 * h.entity_count + (taken spot).size ≤ h.size + 2 * there spot)
   entity-change p =
       let a = sums (entities_at (sections m)) (sections m).entities spot p in
       let z = spare UidIn (entities_at (sections m)) (sections m).entities spot p g.ordered.entities-kept in

@@ -5,7 +5,7 @@ use Rattle.values.specs.Held.{part}
 use Rattle.shelves.specs.Items.{Item, laid, items_in, items_at, offsets, id_key, IdIn, uid_key, UidIn, Each, Shelf, Tabled}
 use Rattle.shelves.proofs.Laid.{read_back}
 use Rattle.store.specs.Sections.{Sections, policies_at, entities_at, used_of, table_at, store_numbers, header, layout, sections, Kept, Ordered, Held, Good, Holds}
-use Rattle.store.specs.Places.{header_row, Says, Bounds}
+use Rattle.store.specs.Places.{header_row, header_at, Says, Bounds}
 use Rattle.store.specs.declared.layout.Header.{Header}
 use Rattle.store.proofs.Rooms.{bounded, never-runs-out}
 
@@ -73,21 +73,7 @@ held_after s m m' behind is o t f =
     holds s m' (record { rest = drop (used_of s) m; is = is; behind = behind; table = r ∙ t; fits = omega arith; ordered = o })
 
 -- ---- the first numbers
-abbrev pub first-numbers : List ℕ → Header
-first-numbers m = record {
-  capacity = get_or m 0 0;
-  size = get_or m 1 0;
-  policies = get_or m 2 0;
-  entities = get_or m 3 0;
-  used = get_or m 4 0;
-  policy_count = get_or m 5 0;
-  entity_count = get_or m 6 0;
-  schema_size = get_or m 7 0;
-  unfit = get_or m 8 0;
-  missing = get_or m 9 0;
-}
-
-pub says : (m : List ℕ) → Good m → Says (sections m) (first-numbers m)
+pub says : (m : List ℕ) → Good m → Says (sections m) (header_at m)
 says m g = record {
   capacity-is = refl;
   size_is = ap (λ l. get_or l 1 0) g.is;
@@ -100,6 +86,11 @@ says m g = record {
   unfit-is = refl;
   missing-is = refl;
 }
+
+-- the first ten numbers are enough
+pub says_first : (m : List ℕ) → Good m → (xs : List ℕ) → xs ≡ take 10 m → Says (sections m) (header_at xs)
+says_first m g xs e =
+    subst (Says (sections m)) (ap header_at g.is ∙ sym (ap (λ l. header_at (take 10 l)) g.is) ∙ ap header_at (sym e)) (says m g)
 
 pub header_is : (s : Sections) (h : Header) → Says s h → header_row h ≡ header s
 header_is s h k =

@@ -57,6 +57,13 @@ module _ (m : List ℕ) (g : Good m) (h : Header) (k : Says (sections m) h) (n z
     missing = h.missing;
   }
 
+  -- the header that the code makes
+  abbrev after : Header → Header
+  after w = record w { policies = 10 + n; entities = h.entities - (h.policies - 10) + n; schema_size = z }
+
+  pub after-is : (w : Header) → w ≡ record h { size = h.size - h.schema_size + z; used = h.used - (h.policies - 10) + n } → after w ≡ header-with
+  after-is w e = ap after e
+
   module _ (row : List ℕ) (l : length row ≡ n) where
     abbrev s' : Sections
     s' = with_schema (item z row) (sections m)

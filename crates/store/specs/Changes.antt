@@ -1,9 +1,9 @@
 -- What each call of the store leaves. Assumes nothing: these are definitions.
-use Rattle.std.specs.Prelude.{◌≡◌, ℕ, ◌+◌, ◌*◌, ◌<◌, ◌≤◌, List, length, take}
+use Rattle.std.specs.Prelude.{◌≡◌, ℕ, ◌+◌, ◌*◌, ◌<◌, ◌≤◌, List, length, take, IsSome}
 use Rattle.spec.specs.Basics.{Text, insert, remove}
 use Rattle.copy.specs.Writing.{written}
 use Rattle.shelves.specs.Items.{Item, laid, id_key, IdIn, uid_key, UidIn}
-use Rattle.shelves.specs.Spots.{Place, Found, EntryOf}
+use Rattle.shelves.specs.Spots.{taken, Place, Found, EntryOf}
 use Rattle.shelves.specs.declared.finding.Spot.{Spot}
 use Rattle.shelves.specs.declared.finding.Entry.{Entry}
 use Rattle.store.specs.Sections.{Sections, sections, size_of, policies_at, entities_at, Holds}
@@ -47,7 +47,7 @@ pub record Comes (s : Sections) (from : ℕ) (xs : List Item) (spot : Spot) (n s
   pub place : Place from xs spot
   pub bounded : n + 1 ≤ 4 * size
   pub least : 2 ≤ size
-  pub fits : size_of s + size ≤ s.capacity + spot.size
+  pub fits : size_of s + size ≤ s.capacity + (taken spot).size
 
 abbrev pub item : ℕ → List ℕ → Item
 item size row = record { size = size; row = row }
@@ -80,7 +80,7 @@ pub record Begins (from : ℕ) (xs : List Item) (k at : ℕ) : Type 0 where
 -- ---- an item goes
 pub record Goes (from : ℕ) (xs : List Item) (spot : Spot) : Type 0 where
   pub place : Place from xs spot
-  pub some : 0 < spot.old
+  pub some : IsSome spot.item
 
 -- memory is in order then, and holds the rest: by the key that the spot was found by
 abbrev pub PolicyGone : Sections → List ℕ → Spot → Type 0

@@ -1,5 +1,5 @@
 -- The first numbers of a store. Assumes nothing: these are definitions.
-use Rattle.std.specs.Prelude.{◌≡◌, ℕ, ◌+◌, ◌*◌, ◌≤◌, List, [], ◌∷◌, ◌++◌, length, drop}
+use Rattle.std.specs.Prelude.{◌≡◌, ℕ, ◌+◌, ◌*◌, ◌≤◌, List, [], ◌∷◌, ◌++◌, length, drop, slice_index}
 use Rattle.shelves.specs.Moves.{moved}
 use Rattle.store.specs.Sections.{Sections, size_of, policies_at, entities_at, used_of, table_at}
 use Rattle.store.specs.declared.layout.Header.{Header}
@@ -10,6 +10,21 @@ header_row h =
     ∷ (h.size
     ∷ (h.policies
     ∷ (h.entities ∷ (h.used ∷ (h.policy_count ∷ (h.entity_count ∷ (h.schema_size ∷ (h.unfit ∷ (h.missing ∷ [])))))))))
+
+-- and back
+abbrev pub header_at : List ℕ → Header
+header_at m = record {
+  capacity = slice_index m 0;
+  size = slice_index m 1;
+  policies = slice_index m 2;
+  entities = slice_index m 3;
+  used = slice_index m 4;
+  policy_count = slice_index m 5;
+  entity_count = slice_index m 6;
+  schema_size = slice_index m 7;
+  unfit = slice_index m 8;
+  missing = slice_index m 9;
+}
 
 -- what they say
 pub record Says (s : Sections) (h : Header) : Type 0 where

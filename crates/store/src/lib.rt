@@ -10,15 +10,11 @@ ghost use Rattle.store.specs.Sections.{MemoryNeverRunsOut};
 ghost use Rattle.store.specs.Trees.{TreesAreItems};
 
 // What a store within its capacity takes, and the table of its entities, fit into its memory.
-pub fn memory_never_runs_out() -> u8
+pub fn memory_never_runs_out()
     ensures { MemoryNeverRunsOut }
-{
-    0
-}
+{}
 
 // A store of trees stands in memory as items, and what a call changes in the one it changes in the other.
-pub fn trees_are_items() -> u8
+pub fn trees_are_items()
     ensures { TreesAreItems }
-{
-    0
-}
+{}

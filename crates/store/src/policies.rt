@@ -1,39 +1,44 @@
 // The policies of a store, in the order of their ids.
-ghost use Rattle.std.specs.Prelude.{ℕ, ◌^◌, ◌<◌, ◌++◌, length};
+ghost use Rattle.std.specs.Prelude.{ℕ};
+ghost use Rattle.values.specs.Memory.{numbers};
 ghost use Rattle.values.specs.Held.{text_at, TextIn};
 ghost use Rattle.store.specs.Sections.{sections, policies_at, Good};
 ghost use Rattle.store.specs.Changes.{PolicyFound, Comes, PolicyRoom, Goes, PolicyGone, PolicyBegins, PolicyEntry};
 
 use crate::layout::{Header, begin_item, header_of, reopen};
-use shelves::finding::{Entry, Spot, entry_at, find_by_text};
+use shelves::finding::{entry_at, find_by_text};
+use shelves::{Entry, Extent, Spot};
+use values::Memory;
 
 // Where the policy is whose id lies at `key`, or where it would be.
-pub fn find_policy(store: &[u64], work: &[u64], key: usize) -> Spot
-    requires small { length (store.now ++ work.now) < 2 ^ 64 }
-    requires good { Good store.now }
-    requires key { TextIn (store.now ++ work.now) key }
-    ensures { PolicyFound (sections store.now) (text_at (store.now ++ work.now) key) result }
+pub fn find_policy(memory: &Memory<'_>, key: usize) -> Spot
+    requires good { Good memory.now.store.now }
+    requires key { TextIn (numbers memory.now) key }
+    ensures { PolicyFound (sections memory.now.store.now) (text_at (numbers memory.now) key) result }
 {
-    let header = header_of(store);
-    find_by_text(store, work, header.policies, header.policy_count, key)
+    let header = header_of(memory.store);
+    find_by_text(memory, header.policies, header.policy_count, key)
 }
 
-// Room for a policy's row of so many numbers at a spot that was found: new, or in place of the one that is there. The answer is where the row is to be written.
+// Room for a policy's row of so many numbers at a spot that was found: new, or in place of the one that is there. The answer is where the row is to be
+// written.
 pub fn room_for_policy(store: &mut [u64], spot: Spot, row_length: usize, size: usize) -> usize
     requires good { Good store.old }
     requires comes { Comes (sections store.old) (policies_at (sections store.old)) (sections store.old).policies spot row_length size }
     ensures { PolicyRoom (sections store.old) store.new spot row_length size result }
 {
     let header = header_of(store);
-    let new = 2 + row_length;
-    let after = Header {
-        size: header.size - spot.size + size,
-        entities: header.entities - spot.old + new,
-        used: header.used - spot.old + new,
-        policy_count: header.policy_count - spot.old.min(1) + 1,
-        ..header
+    let old = spot.taken();
+    let new = Extent {
+        numbers: 2 + row_length,
+        size,
     };
-    reopen(store, after, spot.at, spot.old, new, header.used);
+    let after = Header {
+        entities: header.entities - old.numbers + new.numbers,
+        policy_count: header.policy_count - spot.count() + 1,
+        ..header.with(old, new)
+    };
+    reopen(store, after, spot.splice(new.numbers), header.used);
     begin_item(store, spot.at, row_length, size)
 }
 
@@ -44,14 +49,13 @@ pub fn remove_policy(store: &mut [u64], spot: Spot)
     ensures { PolicyGone (sections store.old) store.new spot }
 {
     let header = header_of(store);
+    let old = spot.taken();
     let after = Header {
-        size: header.size - spot.size,
-        entities: header.entities - spot.old,
-        used: header.used - spot.old,
+        entities: header.entities - old.numbers,
         policy_count: header.policy_count - 1,
-        ..header
+        ..header.with(old, Extent::NOTHING)
     };
-    reopen(store, after, spot.at, spot.old, 0, header.used);
+    reopen(store, after, spot.splice(0), header.used);
 }
 
 // The policy that begins at a place: the first at `policies` of the header, each other where the one before it says.

@@ -3,6 +3,7 @@ ghost use Rattle.store.specs.Sections.{sections, Good};
 ghost use Rattle.store.specs.Changes.{SchemaComes, SchemaRoom};
 
 use crate::layout::{HEADER, Header, header_of, reopen};
+use shelves::{Extent, Splice};
 
 // Room for a schema's row of so many numbers, in place of the old one. The answer is where the row is to be written.
 pub fn room_for_schema(store: &mut [u64], row_length: usize, size: usize) -> usize
@@ -13,13 +14,25 @@ pub fn room_for_schema(store: &mut [u64], row_length: usize, size: usize) -> usi
     let header = header_of(store);
     let old = header.policies - HEADER;
     let after = Header {
-        size: header.size - header.schema_size + size,
         policies: HEADER + row_length,
         entities: header.entities - old + row_length,
-        used: header.used - old + row_length,
         schema_size: size,
-        ..header
+        ..header.with(
+            Extent {
+                numbers: old,
+                size: header.schema_size,
+            },
+            Extent {
+                numbers: row_length,
+                size,
+            },
+        )
     };
-    reopen(store, after, HEADER, old, row_length, header.used);
+    let splice = Splice {
+        at: HEADER,
+        old,
+        new: row_length,
+    };
+    reopen(store, after, splice, header.used);
     HEADER
 }

@@ -1,5 +1,5 @@
 -- Walks along the attributes of records.
-use Rattle.std.proofs.Common.{◌≡◌, ℕ, zero, suc, ◌-◌, ◌<◌, ◌≤◌, Bool, true, false, not, ◌&&◌, List, sym, refl, ap, ◌∙◌, subst, arith}
+use Rattle.std.proofs.Common.{◌≡◌, ℕ, zero, suc, ◌+◌, ◌-◌, ◌<◌, ◌≤◌, Bool, true, false, not, ◌&&◌, List, sym, refl, ap, ◌∙◌, subst, arith}
 use mathlib.Core.Bool.{beq}
 use Rattle.laws.proofs.Texts.{false-true}
 use Rattle.spec.specs.Basics.{same}
@@ -13,6 +13,9 @@ use Rattle.types.specs.declared.nodes.CedarType.{CedarType}
 
 pub under : (h : ℕ) → (h ≡ 0 → ⊥) → h ≡ suc (h - 1)
 under h l = omega (arith, l)
+
+pub fewer : (n k : ℕ) → n - k - 1 ≡ n - (k + 1)
+fewer n k = omega arith
 
 pub above_zero : (n : ℕ) → 0 < n → n ≡ suc (n - 1)
 above_zero n l = omega arith

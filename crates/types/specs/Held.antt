@@ -6,10 +6,13 @@ use Rattle.std.specs.Prelude.{◌≡◌, ℕ, zero, suc, ◌+◌, ◌*◌, ◌<�
 use Rattle.spec.specs.Types as s
 use Rattle.spec.specs.Types.{any_bool, is_true, is_false, bool, int, string, entity, set, record_of, RecordType, empty, attr}
 use Rattle.values.specs.Held.{text_at, TextIn, behind_text}
+use Rattle.values.specs.declared.memory.Memory.{Memory}
 use Rattle.types.specs.declared.nodes.BoolType.{BoolType}
 use Rattle.types.specs.declared.nodes.BoolType.TheVariants.{Any, True, False}
 use Rattle.types.specs.declared.nodes.CedarType.{CedarType}
 use Rattle.types.specs.declared.nodes.CedarType.TheVariants.{Bool as B, Int, String, Entity, Set, Record, MadeSet, MadeRecord}
+use Rattle.types.specs.declared.nodes.RecordPlace.{RecordPlace}
+use Rattle.types.specs.declared.nodes.RecordPlace.TheVariants.{Stored, Made}
 
 -- ---- truths
 abbrev pub means_bool : BoolType → s.BoolType
@@ -48,6 +51,14 @@ abbrev pub made_at : List ℕ → ℕ → CedarType
 made_at w p = type_by (slice_index w p) (slice_index w (p + 1))
 
 -- ---- the attributes of a record, stored or made, from a place on
+abbrev pub is_stored : RecordPlace → Bool
+is_stored (Stored p) = true
+is_stored (Made p) = false
+
+abbrev pub place_of : RecordPlace → ℕ
+place_of (Stored p) = p
+place_of (Made p) = p
+
 abbrev pub count_at : Bool → List ℕ → List ℕ → ℕ → ℕ
 count_at true m w p = slice_index m p
 count_at false m w p = slice_index w p
@@ -162,6 +173,25 @@ Sound G d m w lo hi (MadeRecord p) = MadeRecordIn G m w lo hi p
 abbrev pub Good : ℕ → List ℕ → List ℕ → ℕ → ℕ → CedarType → Type 0
 Good zero m w lo hi v = ⊥
 Good (suc h) m w lo hi v = Sound (Good h m w lo hi) (decode h m w) m w lo hi v
+
+-- ---- the same in the memory of the running code
+abbrev pub GoodIn : ℕ → Memory → CedarType → Type 0
+GoodIn h k v = Good h k.store.now k.work.now 0 (length k.work.now) v
+
+abbrev pub SoundIn : ℕ → Memory → CedarType → Type 0
+SoundIn h k v = Sound (Good h k.store.now k.work.now 0 (length k.work.now)) (decode h k.store.now k.work.now) k.store.now k.work.now 0 (length k.work.now) v
+
+abbrev pub AttrsLie : ℕ → Memory → RecordPlace → Type 0
+AttrsLie h k p = AttrsIn (Good h k.store.now k.work.now 0 (length k.work.now)) (is_stored p) k.store.now k.work.now (length k.work.now) (place_of p)
+
+abbrev pub type_in : ℕ → Memory → CedarType → s.CedarType
+type_in h k v = decode h k.store.now k.work.now v
+
+abbrev pub meant_in : ℕ → Memory → CedarType → s.CedarType
+meant_in h k v = means (decode h k.store.now k.work.now) k.store.now k.work.now v
+
+abbrev pub attrs_in : ℕ → Memory → RecordPlace → RecordType
+attrs_in h k p = attrs_at (decode h k.store.now k.work.now) (is_stored p) k.store.now k.work.now (place_of p)
 
 -- ---- how many numbers of it were made
 abbrev pub sum_to : ℕ → (ℕ → ℕ) → ℕ

@@ -4,3 +4,4 @@ pub mod Matching
 pub mod Joining
 pub mod Stored
 pub mod Found
+pub mod Once

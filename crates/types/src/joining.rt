@@ -1,5 +1,5 @@
 // The least type above two: where one of them is of the schema it is that one, else it is made at the top of the work memory.
-ghost use Rattle.std.specs.Prelude.{◌≡◌, suc, ◌+◌, ◌*◌, ◌<◌, ◌≤◌, true, length};
+ghost use Rattle.std.specs.Prelude.{◌≡◌, suc, ◌+◌, ◌*◌, ◌<◌, ◌≤◌, true, length, slice_index};
 ghost use Rattle.spec.specs.Basics.{is_some};
 ghost use Rattle.spec.specs.Types.{lub_bool, lub as lub_of};
 ghost use Rattle.types.specs.Held.{means_bool, type_by, decode, Good, made};
@@ -7,36 +7,23 @@ ghost use Rattle.types.specs.Joining.{tag_of, Laid, LaidAttr, Joined, Lubbed};
 
 use crate::matching::{Rule, match_types};
 use crate::nodes::{BoolType, CedarType, made_type};
+use values::Memory;
 
-fn tag(v: CedarType) -> u64
-    ensures { result ≡ tag_of v }
-{
-    match v {
-        CedarType::Bool(_) => 0,
-        CedarType::Int => 1,
-        CedarType::String => 2,
-        CedarType::Entity(_) => 3,
-        CedarType::Set(_) => 4,
-        CedarType::Record(_) => 5,
-        CedarType::MadeSet(_) => 6,
-        CedarType::MadeRecord(_) => 7,
-    }
-}
+// The two numbers that a type is laid down as.
+impl From<CedarType> for [u64; 2] {
+    ghost from_gives = { λ v r. (slice_index r 0 ≡ tag_of v) × (type_by (tag_of v) (slice_index r 1) ≡ v) };
 
-fn load(v: CedarType) -> u64
-    ensures { type_by (tag_of v) result ≡ v }
-{
-    match v {
-        CedarType::Bool(BoolType::Any) => 0,
-        CedarType::Bool(BoolType::True) => 1,
-        CedarType::Bool(BoolType::False) => 2,
-        CedarType::Int => 0,
-        CedarType::String => 0,
-        CedarType::Entity(p) => p as u64,
-        CedarType::Set(p) => p as u64,
-        CedarType::Record(p) => p as u64,
-        CedarType::MadeSet(p) => p as u64,
-        CedarType::MadeRecord(p) => p as u64,
+    fn from(v: CedarType) -> Self {
+        match v {
+            CedarType::Bool(t) => [0, t as u64],
+            CedarType::Int => [1, 0],
+            CedarType::String => [2, 0],
+            CedarType::Entity(p) => [3, p as u64],
+            CedarType::Set(p) => [4, p as u64],
+            CedarType::Record(p) => [5, p as u64],
+            CedarType::MadeSet(p) => [6, p as u64],
+            CedarType::MadeRecord(p) => [7, p as u64],
+        }
     }
 }
 
@@ -45,8 +32,7 @@ pub fn lay(work: &mut [u64], at: usize, v: CedarType)
     requires { at + 2 ≤ length work.old }
     ensures { Laid work.old work.new at v }
 {
-    work[at] = tag(v);
-    work[at + 1] = load(v);
+    work[at..at + 2].copy_from_slice(&<[u64; 2]>::from(v));
 }
 
 // Lays an attribute down as three numbers.
@@ -61,21 +47,12 @@ pub fn lay_attr(work: &mut [u64], at: usize, name: usize, v: CedarType)
 fn lub_bools(a: BoolType, b: BoolType) -> BoolType
     ensures { means_bool result ≡ lub_bool (means_bool a) (means_bool b) }
 {
-    match a {
-        BoolType::Any => BoolType::Any,
-        BoolType::True => match b {
-            BoolType::True => BoolType::True,
-            _ => BoolType::Any,
-        },
-        BoolType::False => match b {
-            BoolType::False => BoolType::False,
-            _ => BoolType::Any,
-        },
-    }
+    if a == b { a } else { BoolType::Any }
 }
 
 // The least type above two that have one.
-#[cycle(join_join_kind_join_records_join_sets)]
+// The work memory and its top stay apart: kept in a struct, the `&mut` would have each function promise too that it is still the same one.
+#[cycle(joining)]
 fn join(
     store: &[u64],
     work: &mut [u64],
@@ -97,7 +74,7 @@ fn join(
     join_kind(store, work, top, v, u, height - 1)
 }
 
-#[cycle(join_join_kind_join_records_join_sets)]
+#[cycle(joining)]
 fn join_kind(
     store: &[u64],
     work: &mut [u64],
@@ -113,6 +90,7 @@ fn join_kind(
     requires exists { is_some (lub_of (decode (suc height) store.now work.old v) (decode (suc height) store.now work.old u)) ≡ true }
     ensures { Joined (suc height) store.now work.old work.new top.old top.new v u result }
 {
+    // Of the pair the proof would not learn that the second was not made where only the first was: so v is matched first.
     match v {
         CedarType::Bool(a) => match u {
             CedarType::Bool(b) => CedarType::Bool(lub_bools(a, b)),
@@ -131,7 +109,7 @@ fn join_kind(
 }
 
 // Of two sets that were made.
-#[cycle(join_join_kind_join_records_join_sets)]
+#[cycle(joining)]
 fn join_sets(
     store: &[u64],
     work: &mut [u64],
@@ -157,7 +135,8 @@ fn join_sets(
 }
 
 // Of two records that were made: their attributes are the same, in the same order. The node comes first, and what its attributes hold behind it.
-#[cycle(join_join_kind_join_records_join_sets)]
+// By index: the node is written in the memory that is read.
+#[cycle(joining)]
 fn join_records(
     store: &[u64],
     work: &mut [u64],
@@ -202,7 +181,8 @@ pub fn lub(
     requires right { Good height store.now work.old 0 top.old u }
     ensures { Lubbed height store.now work.old work.new top.old top.new v u result }
 {
-    if !match_types(store, work, Rule::Joins, v, u, height) {
+    let memory = Memory { store, work };
+    if !match_types(&memory, Rule::Joins, v, u, height) {
         return None;
     }
     Some(join(store, work, top, v, u, height))

@@ -9,25 +9,19 @@ pub mod nodes;
 ghost use Rattle.types.specs.Matching.{RulesTell};
 ghost use Rattle.types.specs.Stored.{TypeRowsMean, TypesStay};
 
-pub use nodes::{BoolType, CedarType};
+pub use nodes::{BoolType, CedarType, RecordPlace};
 
 // Two types have a least type above them, one is below the other, they are the same: just if they match by the rule of that name.
-pub fn rules_tell() -> u8
+pub fn rules_tell()
     ensures { RulesTell }
-{
-    0
-}
+{}
 
 // What has the row of a type is that type, wherever the row lies in the store.
-pub fn type_rows_mean() -> u8
+pub fn type_rows_mean()
     ensures { TypeRowsMean }
-{
-    0
-}
+{}
 
 // Types keep their meaning whatever is made before them and behind them.
-pub fn types_stay() -> u8
+pub fn types_stay()
     ensures { TypesStay }
-{
-    0
-}
+{}

@@ -1,36 +1,21 @@
 // Types that go together: which have a least type above them, which are below another, which are the same.
-ghost use Rattle.std.specs.Prelude.{◌≡◌, suc, length};
-ghost use Rattle.types.specs.Held.{means_bool, means, decode, attrs_at, AttrsIn, Sound, Good};
+ghost use Rattle.std.specs.Prelude.{◌≡◌};
+ghost use Rattle.types.specs.Held.{means_bool, GoodIn, SoundIn, AttrsLie, type_in, meant_in, attrs_in};
 ghost use Rattle.spec.specs.Types.{set, record_of};
 ghost use Rattle.types.specs.Matching.{match_bool, match_type, match_attrs};
 
-use crate::nodes::{BoolType, CedarType, attr_at, count, made_type, row_type, same_names};
+use crate::nodes::{
+    BoolType, CedarType, RecordPlace, attr_at, count, made_type, row_type, same_names,
+};
+use values::Memory;
 
 // What is asked of two types: that they have a least type above them, that the first is below the second, that they are the same.
-#[derive(Clone, Copy)]
+// An enum and no closure: what each of the three means is proved of it by name.
+#[derive(Clone, Copy, Debug, PartialEq, Eq)]
 pub enum Rule {
     Joins,
     Below,
     Same,
-}
-
-fn same_bools(a: BoolType, b: BoolType) -> bool
-    ensures { result ≡ match_bool Rule.Same (means_bool a) (means_bool b) }
-{
-    match a {
-        BoolType::Any => match b {
-            BoolType::Any => true,
-            _ => false,
-        },
-        BoolType::True => match b {
-            BoolType::True => true,
-            _ => false,
-        },
-        BoolType::False => match b {
-            BoolType::False => true,
-            _ => false,
-        },
-    }
 }
 
 fn match_bools(rule: Rule, a: BoolType, b: BoolType) -> bool
@@ -38,151 +23,110 @@ fn match_bools(rule: Rule, a: BoolType, b: BoolType) -> bool
 {
     match rule {
         Rule::Joins => true,
-        Rule::Below => match b {
-            BoolType::Any => true,
-            _ => same_bools(a, b),
-        },
-        Rule::Same => same_bools(a, b),
+        Rule::Below => b == BoolType::Any || a == b,
+        Rule::Same => a == b,
     }
 }
 
 // Whether two types go together by a rule.
-#[cycle(match_attrs_match_element_match_kind_match_record_match_types)]
-pub fn match_types(
-    store: &[u64],
-    work: &[u64],
-    rule: Rule,
-    v: CedarType,
-    u: CedarType,
-    height: u64,
-) -> bool
-    requires left { Good height store.now work.now 0 (length work.now) v }
-    requires right { Good height store.now work.now 0 (length work.now) u }
-    ensures { result ≡ match_type rule (decode height store.now work.now v) (decode height store.now work.now u) }
+#[cycle(matching)]
+pub fn match_types(memory: &Memory<'_>, rule: Rule, v: CedarType, u: CedarType, height: u64) -> bool
+    requires left { GoodIn height memory.now v }
+    requires right { GoodIn height memory.now u }
+    ensures { result ≡ match_type rule (type_in height memory.now v) (type_in height memory.now u) }
 {
     if height == 0 {
         return true;
     }
-    match_kind(store, work, rule, v, u, height - 1)
+    match_kind(memory, rule, v, u, height - 1)
 }
 
-#[cycle(match_attrs_match_element_match_kind_match_record_match_types)]
-fn match_kind(
-    store: &[u64],
-    work: &[u64],
-    rule: Rule,
-    v: CedarType,
-    u: CedarType,
-    height: u64,
-) -> bool
-    requires left { Sound (Good height store.now work.now 0 (length work.now)) (decode height store.now work.now) store.now work.now 0 (length work.now) v }
-    requires right { Sound (Good height store.now work.now 0 (length work.now)) (decode height store.now work.now) store.now work.now 0 (length work.now) u }
-    ensures { result ≡ match_type rule (means (decode height store.now work.now) store.now work.now v) (means (decode height store.now work.now) store.now work.now u) }
+#[cycle(matching)]
+fn match_kind(memory: &Memory<'_>, rule: Rule, v: CedarType, u: CedarType, height: u64) -> bool
+    requires left { SoundIn height memory.now v }
+    requires right { SoundIn height memory.now u }
+    ensures { result ≡ match_type rule (meant_in height memory.now v) (meant_in height memory.now u) }
 {
-    match v {
-        CedarType::Bool(a) => match u {
-            CedarType::Bool(b) => match_bools(rule, a, b),
-            _ => false,
-        },
-        CedarType::Int => match u {
-            CedarType::Int => true,
-            _ => false,
-        },
-        CedarType::String => match u {
-            CedarType::String => true,
-            _ => false,
-        },
-        CedarType::Entity(p) => match u {
-            CedarType::Entity(q) => same_names(store, p, q),
-            _ => false,
-        },
-        CedarType::Set(p) => match_element(store, work, rule, row_type(store, p), u, height),
-        CedarType::MadeSet(p) => match_element(store, work, rule, made_type(work, p), u, height),
-        CedarType::Record(p) => match_record(store, work, rule, true, p, u, height),
-        CedarType::MadeRecord(p) => match_record(store, work, rule, false, p, u, height),
+    match (v, u) {
+        (CedarType::Bool(a), CedarType::Bool(b)) => match_bools(rule, a, b),
+        (CedarType::Int, CedarType::Int) => true,
+        (CedarType::String, CedarType::String) => true,
+        (CedarType::Entity(p), CedarType::Entity(q)) => same_names(memory.store, p, q),
+        (CedarType::Set(p), _) => match_element(memory, rule, row_type(memory.store, p), u, height),
+        (CedarType::MadeSet(p), _) => match_element(
+            memory,
+            rule,
+            made_type(memory.work, p),
+            u,
+            height,
+        ),
+        (CedarType::Record(p), _) => match_record(memory, rule, RecordPlace::Stored(p), u, height),
+        (CedarType::MadeRecord(p), _) => match_record(
+            memory,
+            rule,
+            RecordPlace::Made(p),
+            u,
+            height,
+        ),
+        _ => false,
     }
 }
 
 // A set of the first with a type that may be a set.
-#[cycle(match_attrs_match_element_match_kind_match_record_match_types)]
-fn match_element(
-    store: &[u64],
-    work: &[u64],
-    rule: Rule,
-    v: CedarType,
-    u: CedarType,
-    height: u64,
-) -> bool
-    requires left { Good height store.now work.now 0 (length work.now) v }
-    requires right { Sound (Good height store.now work.now 0 (length work.now)) (decode height store.now work.now) store.now work.now 0 (length work.now) u }
-    ensures { result ≡ match_type rule (set (decode height store.now work.now v)) (means (decode height store.now work.now) store.now work.now u) }
+#[cycle(matching)]
+fn match_element(memory: &Memory<'_>, rule: Rule, v: CedarType, u: CedarType, height: u64) -> bool
+    requires left { GoodIn height memory.now v }
+    requires right { SoundIn height memory.now u }
+    ensures { result ≡ match_type rule (set (type_in height memory.now v)) (meant_in height memory.now u) }
 {
     match u {
-        CedarType::Set(q) => match_types(store, work, rule, v, row_type(store, q), height),
-        CedarType::MadeSet(q) => match_types(store, work, rule, v, made_type(work, q), height),
+        CedarType::Set(q) => match_types(memory, rule, v, row_type(memory.store, q), height),
+        CedarType::MadeSet(q) => match_types(memory, rule, v, made_type(memory.work, q), height),
         _ => false,
     }
 }
 
 // A record with a type that may be a record.
-#[cycle(match_attrs_match_element_match_kind_match_record_match_types)]
-fn match_record(
-    store: &[u64],
-    work: &[u64],
-    rule: Rule,
-    stored: bool,
-    p: usize,
-    u: CedarType,
-    height: u64,
-) -> bool
-    requires left { AttrsIn (Good height store.now work.now 0 (length work.now)) stored store.now work.now (length work.now) p }
-    requires right { Sound (Good height store.now work.now 0 (length work.now)) (decode height store.now work.now) store.now work.now 0 (length work.now) u }
-    ensures { result ≡ match_type rule (record_of (attrs_at (decode height store.now work.now) stored store.now work.now p)) (means (decode height store.now work.now) store.now work.now u) }
+#[cycle(matching)]
+fn match_record(memory: &Memory<'_>, rule: Rule, p: RecordPlace, u: CedarType, height: u64) -> bool
+    requires left { AttrsLie height memory.now p }
+    requires right { SoundIn height memory.now u }
+    ensures { result ≡ match_type rule (record_of (attrs_in height memory.now p)) (meant_in height memory.now u) }
 {
     match u {
-        CedarType::Record(q) => match_attrs(store, work, rule, stored, p, true, q, height),
-        CedarType::MadeRecord(q) => match_attrs(store, work, rule, stored, p, false, q, height),
+        CedarType::Record(q) => match_attrs(memory, rule, p, RecordPlace::Stored(q), height),
+        CedarType::MadeRecord(q) => match_attrs(memory, rule, p, RecordPlace::Made(q), height),
         _ => false,
     }
 }
 
-// The attributes of two records, one by one.
-#[cycle(match_attrs_match_element_match_kind_match_record_match_types)]
-fn match_attrs(
-    store: &[u64],
-    work: &[u64],
-    rule: Rule,
-    stored: bool,
-    p: usize,
-    other: bool,
-    q: usize,
-    height: u64,
-) -> bool
-    requires left { AttrsIn (Good height store.now work.now 0 (length work.now)) stored store.now work.now (length work.now) p }
-    requires right { AttrsIn (Good height store.now work.now 0 (length work.now)) other store.now work.now (length work.now) q }
-    ensures { result ≡ match_attrs rule (attrs_at (decode height store.now work.now) stored store.now work.now p) (attrs_at (decode height store.now work.now) other store.now work.now q) }
+// The attributes of two records, one by one. Attributes have lengths of their own, so the next is found from the one before it.
+#[cycle(matching)]
+fn match_attrs(memory: &Memory<'_>, rule: Rule, p: RecordPlace, q: RecordPlace, height: u64) -> bool
+    requires left { AttrsLie height memory.now p }
+    requires right { AttrsLie height memory.now q }
+    ensures { result ≡ match_attrs rule (attrs_in height memory.now p) (attrs_in height memory.now q) }
 {
-    let mut left = count(store, work, stored, p);
-    if left != count(store, work, other, q) {
+    let n = count(memory, p);
+    if n != count(memory, q) {
         return false;
     }
-    let mut e = p + 1;
-    let mut f = q + 1;
-    while left > 0 {
-        let a = attr_at(store, work, stored, e);
-        let b = attr_at(store, work, other, f);
-        if !same_names(store, a.name, b.name) {
+    let mut e = p.at() + 1;
+    let mut f = q.at() + 1;
+    for _ in 0..n {
+        let a = attr_at(memory, p, e);
+        let b = attr_at(memory, q, f);
+        if !same_names(memory.store, a.name, b.name) {
             return false;
         }
         if a.required != b.required {
             return false;
         }
-        if !match_types(store, work, rule, a.ty, b.ty, height) {
+        if !match_types(memory, rule, a.ty, b.ty, height) {
             return false;
         }
         e = a.next;
         f = b.next;
-        left -= 1;
     }
     true
 }

@@ -1,22 +1,24 @@
 // Types at run time, and how they are read from memory.
-ghost use Rattle.std.specs.Prelude.{◌≡◌, ℕ, ◌+◌, ◌<◌, ◌≤◌, Bool, List, length};
+ghost use Rattle.std.specs.Prelude.{◌≡◌, ◌+◌, ◌≤◌, true, false, [], length};
 ghost use Rattle.spec.specs.Basics.{same};
 ghost use Rattle.values.specs.Held.{text_at, TextIn, behind_text};
-ghost use Rattle.types.specs.Held.{bool_by, type_by, row_type_at, made_at, TypeRowIn, AttrIn, CountIn, count_at, name_at, required_at, attr_type_at, next_at};
+ghost use Rattle.types.specs.Held.{bool_by, type_by, row_type_at, made_at, TypeRowIn, AttrIn, CountIn, count_at, name_at, required_at, attr_type_at, next_at, is_stored, place_of};
 
+use values::Memory;
 use values::texts::same_texts;
 
 // What a truth may be.
-#[derive(Clone, Copy)]
+#[derive(Clone, Copy, Debug, PartialEq, Eq)]
 pub enum BoolType {
     Any,
     True,
     False,
 }
 
-// The numbers are places: the first three of the store, where a name, the row of what is in a set, or the number of a record's attributes lies;
-// the others of the work memory.
-#[derive(Clone, Copy)]
+// The numbers are places and no Box: all memory is lent. That a type is good there is a clause and no field of it: as the work memory grows, the same type is
+// good in one memory after the other. The first three are places of the store, where a name, the row of what is in a set, or the number of a record's
+// attributes lies; the others are places of the work memory.
+#[derive(Clone, Copy, Debug, PartialEq, Eq)]
 pub enum CedarType {
     Bool(BoolType),
     Int,
@@ -28,8 +30,25 @@ pub enum CedarType {
     MadeRecord(usize),
 }
 
+// Where the number of a record's attributes lies, and its attributes behind it: in the store, or in the work memory.
+#[derive(Clone, Copy, Debug, PartialEq, Eq)]
+pub enum RecordPlace {
+    Stored(usize),
+    Made(usize),
+}
+
+impl RecordPlace {
+    pub fn at(self) -> usize
+        ensures { result ≡ place_of self }
+    {
+        match self {
+            RecordPlace::Stored(p) | RecordPlace::Made(p) => p,
+        }
+    }
+}
+
 // An attribute of a record, and where the next one begins.
-#[derive(Clone, Copy)]
+#[derive(Clone, Copy, Debug, PartialEq, Eq)]
 pub struct Attr {
     pub name: usize,
     pub required: bool,
@@ -37,13 +56,16 @@ pub struct Attr {
     pub next: usize,
 }
 
-fn bool_type(x: u64) -> BoolType
-    ensures { result ≡ bool_by x }
-{
-    match x {
-        0 => BoolType::Any,
-        1 => BoolType::True,
-        _ => BoolType::False,
+// Rows are of calls that were read, so no number stands for nothing: the last is for all that are left.
+impl From<u64> for BoolType {
+    ghost from_gives = { λ x t. t ≡ bool_by x };
+
+    fn from(x: u64) -> Self {
+        match x {
+            0 => BoolType::Any,
+            1 => BoolType::True,
+            _ => BoolType::False,
+        }
     }
 }
 
@@ -53,7 +75,7 @@ pub fn row_type(store: &[u64], p: usize) -> CedarType
     ensures { result ≡ row_type_at store.now p }
 {
     match store[p] {
-        0 => CedarType::Bool(bool_type(store[p + 2])),
+        0 => CedarType::Bool(BoolType::from(store[p + 2])),
         1 => CedarType::Int,
         2 => CedarType::String,
         3 => CedarType::Entity(p + 2),
@@ -69,7 +91,7 @@ pub fn made_type(work: &[u64], p: usize) -> CedarType
 {
     let x = work[p + 1];
     match work[p] {
-        0 => CedarType::Bool(bool_type(x)),
+        0 => CedarType::Bool(BoolType::from(x)),
         1 => CedarType::Int,
         2 => CedarType::String,
         3 => CedarType::Entity(x as usize),
@@ -80,41 +102,59 @@ pub fn made_type(work: &[u64], p: usize) -> CedarType
     }
 }
 
-// How many attributes a record has, which is stored or made.
-pub fn count(store: &[u64], work: &[u64], stored: bool, p: usize) -> usize
-    requires { CountIn stored store.now (length work.now) p }
-    ensures { result ≡ count_at stored store.now work.now p }
+// How many attributes a record has.
+pub fn count(memory: &Memory<'_>, place: RecordPlace) -> usize
+    requires { CountIn (is_stored place) memory.now.store.now (length memory.now.work.now) (place_of place) }
+    ensures { result ≡ count_at (is_stored place) memory.now.store.now memory.now.work.now (place_of place) }
 {
-    if stored {
-        store[p] as usize
-    } else {
-        work[p] as usize
+    match place {
+        RecordPlace::Stored(p) => memory.store[p] as usize,
+        RecordPlace::Made(p) => memory.work[p] as usize,
     }
 }
 
-// The attribute that begins at a place.
-pub fn attr_at(store: &[u64], work: &[u64], stored: bool, e: usize) -> Attr
-    requires { AttrIn stored store.now work.now (length work.now) e }
-    ensures name { result.name ≡ name_at stored store.now work.now e }
-    ensures required { result.required ≡ required_at stored store.now e }
-    ensures ty { result.ty ≡ attr_type_at stored store.now work.now e }
-    ensures next { result.next ≡ next_at stored store.now e }
+fn stored_attr(store: &[u64], e: usize) -> Attr
+    requires { AttrIn true store.now [] 0 e }
+    ensures name { result.name ≡ name_at true store.now [] e }
+    ensures required { result.required ≡ required_at true store.now e }
+    ensures ty { result.ty ≡ attr_type_at true store.now [] e }
+    ensures next { result.next ≡ next_at true store.now e }
 {
-    if stored {
-        let row = e + 1 + 1 + store[e + 1] as usize;
-        let next = row + store[row + 1] as usize;
-        return Attr {
-            name: e + 1,
-            required: store[e] == 1,
-            ty: row_type(store, row),
-            next,
-        };
+    let row = e + 1 + 1 + store[e + 1] as usize;
+    Attr {
+        name: e + 1,
+        required: store[e] == 1,
+        ty: row_type(store, row),
+        next: row + store[row + 1] as usize,
     }
+}
+
+fn made_attr(work: &[u64], e: usize) -> Attr
+    requires { e + 3 ≤ length work.now }
+    ensures name { result.name ≡ name_at false [] work.now e }
+    ensures required { result.required ≡ required_at false [] e }
+    ensures ty { result.ty ≡ attr_type_at false [] work.now e }
+    ensures next { result.next ≡ next_at false [] e }
+{
     Attr {
         name: work[e] as usize,
         required: true,
         ty: made_type(work, e + 1),
         next: e + 3,
+    }
+}
+
+// The attribute of a record that begins at a place.
+pub fn attr_at(memory: &Memory<'_>, place: RecordPlace, e: usize) -> Attr
+    requires { AttrIn (is_stored place) memory.now.store.now memory.now.work.now (length memory.now.work.now) e }
+    ensures name { result.name ≡ name_at (is_stored place) memory.now.store.now memory.now.work.now e }
+    ensures required { result.required ≡ required_at (is_stored place) memory.now.store.now e }
+    ensures ty { result.ty ≡ attr_type_at (is_stored place) memory.now.store.now memory.now.work.now e }
+    ensures next { result.next ≡ next_at (is_stored place) memory.now.store.now e }
+{
+    match place {
+        RecordPlace::Stored(_) => stored_attr(memory.store, e),
+        RecordPlace::Made(_) => made_attr(memory.work, e),
     }
 }
 
@@ -124,5 +164,6 @@ pub fn same_names(store: &[u64], p: usize, q: usize) -> bool
     requires right { TextIn store.now q }
     ensures { result ≡ same (text_at store.now p) (text_at store.now q) }
 {
-    same_texts(store, &[], p, q)
+    let memory = Memory { store, work: &[] };
+    same_texts(&memory, p, q)
 }

@@ -1,5 +1,8 @@
 -- One more attribute in its place, or in the place of the one of its name.
-use Rattle.std.proofs.Common.{◌≡◌, ℕ, zero, suc, ◌+◌, ◌-◌, ◌*◌, ◌<◌, ◌≤◌, cond, ◌≢◌, ◌⊎◌, List, ◌++◌, length, get_or, take, set, sym, refl, ap, ◌∙◌, subst, ap₂, inl, inr, arith}
+use Rattle.std.specs.Ordering.{ordering_reverse, is_lt}
+use Rattle.std.specs.declared.cmp.Ordering.TheVariants.{Less, Equal, Greater}
+use Rattle.std.specs.declared.cmp.Ordering.{Ordering}
+use Rattle.std.proofs.Common.{Ok, Err, [], ◌∷◌, ◌≡◌, ℕ, zero, suc, ◌+◌, ◌*◌, ◌<◌, ◌≤◌, cond, ◌≢◌, List, ◌++◌, length, get_or, take, set, sym, refl, ap, ◌∙◌, subst, ap₂, inl, inr, arith}
 use Rattle.std.proofs.lemmas.Bool.{cases_eq, cases_lt}
 use Rattle.std.proofs.lemmas.List.{take-set-le, get_or-set_same, get_or-set_other, length-set}
 use Rattle.spec.specs.Values as s
@@ -7,29 +10,26 @@ use Rattle.spec.specs.Values.{attr, empty}
 use Rattle.laws.specs.Bridges.{with_attr}
 use Rattle.values.specs.Order.{order_row}
 use Rattle.values.specs.Held.{value_of, run_attrs, decode, Good, text_at, TextIn}
-use Rattle.values.specs.Making.{up_to, named, kept_attr, MadeRecord, OpenedThree, InsertedAttr, Spotted}
+use Rattle.values.specs.Making.{up_to, named, kept_attr, MadeRecord, Written, Opened, InsertedAttr, Spotted}
 use Rattle.values.specs.declared.nodes.Value.{Value}
-use Rattle.values.specs.declared.ordering.Order.{Order}
-use Rattle.values.specs.declared.ordering.Order.TheVariants.{Less, Same, Greater}
-use Rattle.values.specs.declared.sets.Spot.TheVariants.{There, New}
-use Rattle.values.proofs.Orders.{is-less, less-row, same_row}
+use Rattle.values.proofs.Orders.{less-row, same_row}
 use Rattle.values.proofs.Frame.{run-attrs-same}
-use Rattle.values.proofs.Rising.{flip, flip-row, texts, rising-new}
-use Rattle.values.proofs.OneMore.{at_before, take-before}
+use Rattle.values.proofs.Rising.{flip-row, texts, rising-new}
+use Rattle.values.proofs.OneMore.{at_before, take-before, for-each}
 
-with-attr-by : (x : List ℕ) (v : s.Value) (b : List ℕ) (w : s.Value) (fs : s.Attrs) (o : Order) → order_row x b ≡ o →
-    with_attr x v (attr b w fs) ≡ cond (is-less o) (attr x v (attr b w fs)) (cond (is-less (flip o)) (attr b w (with_attr x v fs)) (attr x v fs))
+with-attr-by : (x : List ℕ) (v : s.Value) (b : List ℕ) (w : s.Value) (fs : s.Attrs) (o : Ordering) → order_row x b ≡ o →
+    with_attr x v (attr b w fs) ≡ cond (is_lt o) (attr x v (attr b w fs)) (cond (is_lt (ordering_reverse o)) (attr b w (with_attr x v fs)) (attr x v fs))
 with-attr-by x v b w fs o e =
-    ap₂ (λ p q. cond p (attr x v (attr b w fs)) (cond q (attr b w (with_attr x v fs)) (attr x v fs))) (less-row x b ∙ ap is-less e) (less-row b x ∙ ap is-less (flip-row x b ∙ ap flip e))
+    ap₂ (λ p q. cond p (attr x v (attr b w fs)) (cond q (attr b w (with_attr x v fs)) (attr x v fs))) (less-row x b ∙ ap is_lt e) (less-row b x ∙ ap is_lt (flip-row x b ∙ ap ordering_reverse e))
 
 put_same : (a b : List ℕ) (v w : s.Value) (fs gs : s.Attrs) → a ≡ b → v ≡ w → fs ≡ gs → attr a v fs ≡ attr b w gs
 put_same a b v w fs gs p q r = λ i. attr (p i) (q i) (r i)
 
-pub with-attr-there : (a b : ℕ → List ℕ) (f g : ℕ → s.Value) (x : List ℕ) (v : s.Value) (i r k : ℕ) → i ≤ k → k < i + r → ((j : ℕ) → i ≤ j → j < k → order_row x (a j) ≡ Greater) → order_row x (a k) ≡ Same →
+pub with-attr-there : (a b : ℕ → List ℕ) (f g : ℕ → s.Value) (x : List ℕ) (v : s.Value) (i r k : ℕ) → i ≤ k → k < i + r → ((j : ℕ) → i ≤ j → j < k → order_row x (a j) ≡ Greater) → order_row x (a k) ≡ Equal →
     ((j : ℕ) → b j ≡ a j) → ((j : ℕ) → j ≢ k → g j ≡ f j) → g k ≡ v → with_attr x v (run_attrs a f i r) ≡ run_attrs b g i r
 with-attr-there a b f g x v i zero k l l' p e n s h = absurd (omega arith)
 with-attr-there a b f g x v i (suc r) k l l' p e n s h = elim (cases_eq i k) [
-  | inl q ↦ with-attr-by x v (a i) (f i) (run_attrs a f (i + 1) r) Same (ap (λ j. order_row x (a j)) q ∙ e)
+  | inl q ↦ with-attr-by x v (a i) (f i) (run_attrs a f (i + 1) r) Equal (ap (λ j. order_row x (a j)) q ∙ e)
       ∙ put_same x (b i) v (g i) (run_attrs a f (i + 1) r) (run_attrs b g (i + 1) r) (same_row x (a k) e ∙ ap a (sym q) ∙ sym (n i)) (sym (ap g q ∙ h)) (run-attrs-same a b f g (i + 1) r (λ j x y. sym (n j)) (λ j y z. sym (s j (omega arith))))
   | inr u ↦ with-attr-by x v (a i) (f i) (run_attrs a f (i + 1) r) Greater (p i (omega arith) (omega arith))
       ∙ put_same (a i) (b i) (f i) (g i) (with_attr x v (run_attrs a f (i + 1) r)) (run_attrs b g (i + 1) r) (sym (n i)) (sym (s i u)) (with-attr-there a b f g x v (i + 1) r k (omega arith) (omega arith) (λ j y z. p j (omega arith) z) e n s h)
@@ -54,9 +54,9 @@ with-attr-new a b f g x v i (suc r) k l l' p e b₁ b₂ b₃ g₁ g₂ g₃ = e
 ]
 
 module _ (h : ℕ) (store w w₁ : List ℕ) (a t k n x y : ℕ) (v : Value) (M : MadeRecord h store w a t) (N : TextIn (up_to store w a) n) (G : Good h (up_to store w a) v) (is : value_of 0 x y ≡ v)
-    (S : Spotted (λ j. order_row (text_at (up_to store w a) n) (text_at (up_to store w a) (named w a j))) (get_or w (a + 1) 0) (New k)) (O : OpenedThree w w₁ (a + 2 + 3 * k) t n x y) (long : length w₁ ≡ length w) (room : t + 3 ≤ length w) where
+    (S : Spotted (λ j. order_row (text_at (up_to store w a) n) (text_at (up_to store w a) (named w a j))) (get_or w (a + 1) 0) (Err k)) (O : Opened w w₁ (a + 2 + 3 * k) t (n ∷ x ∷ y ∷ [])) (long : length w₁ ≡ length w) (room : t + 3 ≤ length w) where
   w₂ : List ℕ
-  w₂ = set w₁ (a + 1) (get_or w (a + 1) 0 + 1)
+  w₂ = set w₁ (a + 1) (get_or w₁ (a + 1) 0 + 1)
 
   len : length w₂ ≡ length w
   unfolding w₂
@@ -64,15 +64,15 @@ module _ (h : ℕ) (store w w₁ : List ℕ) (a t k n x y : ℕ) (v : Value) (M 
 
   below : take a w₂ ≡ take a w
   unfolding w₂
-  below = take-set-le a w₁ (a + 1) (get_or w (a + 1) 0 + 1) (omega arith) ∙ take-before w w₁ (a + 2 + 3 * k) a O.before (omega arith)
+  below = take-set-le a w₁ (a + 1) (get_or w₁ (a + 1) 0 + 1) (omega arith) ∙ take-before w w₁ (a + 2 + 3 * k) a O.before (omega arith)
 
   other : (i : ℕ) → i ≢ a + 1 → get_or w₂ i 0 ≡ get_or w₁ i 0
   unfolding w₂
-  other i u = get_or-set_other w₁ (a + 1) i (get_or w (a + 1) 0 + 1) 0 u
+  other i u = get_or-set_other w₁ (a + 1) i (get_or w₁ (a + 1) 0 + 1) 0 u
 
   counted : get_or w₂ (a + 1) 0 ≡ get_or w (a + 1) 0 + 1
   unfolding w₂
-  counted = get_or-set_same w₁ (a + 1) (get_or w (a + 1) 0 + 1) 0 (omega (arith, M.ends, M.fits))
+  counted = get_or-set_same w₁ (a + 1) (get_or w₁ (a + 1) 0 + 1) 0 (omega (arith, M.ends, M.fits)) ∙ ap (λ n. n + 1) (at_before w w₁ (a + 2 + 3 * k) (a + 1) O.before (omega arith))
 
   low : (i : ℕ) → i ≢ a + 1 → i < a + 2 + 3 * k → get_or w₂ i 0 ≡ get_or w i 0
   low i u l = other i u ∙ at_before w w₁ (a + 2 + 3 * k) i O.before l
@@ -83,8 +83,17 @@ module _ (h : ℕ) (store w w₁ : List ℕ) (a t k n x y : ℕ) (v : Value) (M 
   named-low : (j : ℕ) → j < k → named w₂ a j ≡ named w a j
   named-low j l = low (a + 2 + 3 * j) (omega arith) (omega arith)
 
+  first : get_or w₁ (a + 2 + 3 * k) 0 ≡ n
+  first = let e : a + 2 + 3 * k ≡ a + 2 + 3 * k + 0 = omega arith in ap (λ i. get_or w₁ i 0) e ∙ O.here 0 (omega arith)
+
+  second : get_or w₁ (a + 2 + 3 * k + 1) 0 ≡ x
+  second = O.here 1 (omega arith)
+
+  third : get_or w₁ (a + 2 + 3 * k + 2) 0 ≡ y
+  third = O.here 2 (omega arith)
+
   named_here : named w₂ a k ≡ n
-  named_here = other (a + 2 + 3 * k) (omega arith) ∙ O.first
+  named_here = other (a + 2 + 3 * k) (omega arith) ∙ first
 
   named-high : (j : ℕ) → k ≤ j → j < get_or w (a + 1) 0 → named w₂ a (j + 1) ≡ named w a j
   named-high j l l' = high (a + 2 + 3 * j) (a + 2 + 3 * (j + 1)) (omega arith) (omega (arith, M.ends)) (omega arith)
@@ -93,7 +102,7 @@ module _ (h : ℕ) (store w w₁ : List ℕ) (a t k n x y : ℕ) (v : Value) (M 
   kept_low j l = ap₂ (value_of 0) (low (a + 2 + 3 * j + 1) (omega arith) (omega arith)) (low (a + 2 + 3 * j + 2) (omega arith) (omega arith))
 
   kept_here : kept_attr w₂ a k ≡ v
-  kept_here = ap₂ (value_of 0) (other (a + 2 + 3 * k + 1) (omega arith) ∙ O.second) (other (a + 2 + 3 * k + 2) (omega arith) ∙ O.third) ∙ is
+  kept_here = ap₂ (value_of 0) (other (a + 2 + 3 * k + 1) (omega arith) ∙ second) (other (a + 2 + 3 * k + 2) (omega arith) ∙ third) ∙ is
 
   kept_high : (j : ℕ) → k ≤ j → j < get_or w (a + 1) 0 → kept_attr w₂ a (j + 1) ≡ kept_attr w a j
   kept_high j l l' = ap₂ (value_of 0) (high (a + 2 + 3 * j + 1) (a + 2 + 3 * (j + 1) + 1) (omega arith) (omega (arith, M.ends)) (omega arith)) (high (a + 2 + 3 * j + 2) (a + 2 + 3 * (j + 1) + 2) (omega arith) (omega (arith, M.ends)) (omega arith))
@@ -101,18 +110,7 @@ module _ (h : ℕ) (store w w₁ : List ℕ) (a t k n x y : ℕ) (v : Value) (M 
   mems : up_to store w₂ a ≡ up_to store w a
   mems = ap (λ z. store ++ z) below
 
-  -- what holds of each of the old ones and of the new one
-  for-each : {X : Type 0} (P : X → Type 0) (old new : ℕ → X) (z : X) → ((j : ℕ) → j < get_or w (a + 1) 0 → P (old j)) → P z → ((j : ℕ) → j < k → new j ≡ old j) → new k ≡ z → ((j : ℕ) → k ≤ j → j < get_or w (a + 1) 0 → new (j + 1) ≡ old j) →
-      (j : ℕ) → j < get_or w (a + 1) 0 + 1 → P (new j)
-  for-each P old new z each here b₁ b₂ b₃ j l = elim (cases_lt j k) [
-    | inl b ↦ subst P (sym (b₁ j b)) (each j (omega (arith, S.0)))
-    | inr b ↦ elim (cases_eq j k) [
-      | inl q ↦ subst P (sym (ap new q ∙ b₂)) here
-      | inr u ↦ let q : j ≡ j - 1 + 1 = omega arith in subst P (sym (ap new q ∙ b₃ (j - 1) (omega arith) (omega arith))) (each (j - 1) (omega arith))
-    ]
-  ]
-
-  pub attribute-new : InsertedAttr h store w (set w₁ (a + 1) (get_or w (a + 1) 0 + 1)) a t (t + 3) n v
+  pub attribute-new : InsertedAttr h store w (set w₁ (a + 1) (get_or w₁ (a + 1) 0 + 1)) a t (t + 3) n v
   unfolding w₂
   attribute-new = record {
     rises = omega arith;
@@ -123,11 +121,11 @@ module _ (h : ℕ) (store w w₁ : List ℕ) (a t k n x y : ℕ) (v : Value) (M 
       flag = low a (omega arith) (omega arith) ∙ M.flag;
       ends = omega (arith, counted, M.ends);
       fits = omega (arith, len);
-      names = λ j l. subst (λ m. TextIn m (named w₂ a j)) (sym mems) (for-each (TextIn (up_to store w a)) (named w a) (named w₂ a) n M.names N named-low named_here named-high j (omega (arith, counted)));
+      names = λ j l. subst (λ m. TextIn m (named w₂ a j)) (sym mems) (for-each (TextIn (up_to store w a)) (named w a) (named w₂ a) n (get_or w (a + 1) 0) k S.0 M.names N named-low named_here named-high j (omega (arith, counted)));
       rising = λ i j l l'. ap₂ order_row (ap (λ m. text_at m (named w₂ a i)) mems) (ap (λ m. text_at m (named w₂ a j)) mems) ∙
           rising-new order_row texts (λ j. text_at (up_to store w a) (named w a j)) (get_or w (a + 1) 0) M.rising (text_at (up_to store w a) n) (λ j. text_at (up_to store w a) (named w₂ a j)) k S
           (λ j l. ap (text_at (up_to store w a)) (named-low j l)) (ap (text_at (up_to store w a)) named_here) (λ j l l'. ap (text_at (up_to store w a)) (named-high j l l')) i j l (omega (arith, counted));
-      each = λ j l. subst (λ m. Good h m (kept_attr w₂ a j)) (sym mems) (for-each (Good h (up_to store w a)) (kept_attr w a) (kept_attr w₂ a) v M.each G kept_low kept_here kept_high j (omega (arith, counted)));
+      each = λ j l. subst (λ m. Good h m (kept_attr w₂ a j)) (sym mems) (for-each (Good h (up_to store w a)) (kept_attr w a) (kept_attr w₂ a) v (get_or w (a + 1) 0) k S.0 M.each G kept_low kept_here kept_high j (omega (arith, counted)));
     };
     holds =
         ap₂ (λ m c. run_attrs (λ j. text_at m (named w₂ a j)) (λ j. decode h m (kept_attr w₂ a j)) 0 c) mems (counted ∙ plus (get_or w (a + 1) 0))
@@ -141,29 +139,21 @@ module _ (h : ℕ) (store w w₁ : List ℕ) (a t k n x y : ℕ) (v : Value) (M 
       plus c = omega arith
 
 module _ (h : ℕ) (store w : List ℕ) (a t k n x y : ℕ) (v : Value) (M : MadeRecord h store w a t) (G : Good h (up_to store w a) v) (is : value_of 0 x y ≡ v)
-    (S : Spotted (λ j. order_row (text_at (up_to store w a) n) (text_at (up_to store w a) (named w a j))) (get_or w (a + 1) 0) (There k)) where
-  w₃ : List ℕ
-  w₃ = set (set w (a + 2 + 3 * k + 1) x) (a + 2 + 3 * k + 2) y
-
-  len₃ : length w₃ ≡ length w
-  unfolding w₃
-  len₃ = simp length-set
-
+    (S : Spotted (λ j. order_row (text_at (up_to store w a) n) (text_at (up_to store w a) (named w a j))) (get_or w (a + 1) 0) (Ok k)) (w₃ : List ℕ) (W : Written w w₃ (a + 2 + 3 * k + 1) (x ∷ y ∷ [])) (long : length w₃ ≡ length w) where
   apart : (i : ℕ) → i ≢ a + 2 + 3 * k + 1 → i ≢ a + 2 + 3 * k + 2 → get_or w₃ i 0 ≡ get_or w i 0
-  unfolding w₃
-  apart i u u' = get_or-set_other (set w (a + 2 + 3 * k + 1) x) (a + 2 + 3 * k + 2) i y 0 u' ∙ get_or-set_other w (a + 2 + 3 * k + 1) i x 0 u
+  apart i u u' = elim (cases_lt i (a + 2 + 3 * k + 1)) [
+    | inl l ↦ at_before w w₃ (a + 2 + 3 * k + 1) i W.before l
+    | inr l ↦ W.beyond i (omega arith)
+  ]
 
   here : kept_attr w₃ a k ≡ v
-  unfolding w₃
   here =
-      let l : a + 2 + 3 * k + 2 < length w = omega (arith, M.ends, M.fits, S.0) in
-      ap₂ (value_of 0)
-      (get_or-set_other (set w (a + 2 + 3 * k + 1) x) (a + 2 + 3 * k + 2) (a + 2 + 3 * k + 1) y 0 (omega arith) ∙ get_or-set_same w (a + 2 + 3 * k + 1) x 0 (omega arith))
-      (get_or-set_same (set w (a + 2 + 3 * k + 1) x) (a + 2 + 3 * k + 2) y 0 (simp length-set l)) ∙ is
+      let e : a + 2 + 3 * k + 1 ≡ a + 2 + 3 * k + 1 + 0 = omega arith in
+      let e' : a + 2 + 3 * k + 2 ≡ a + 2 + 3 * k + 1 + 1 = omega arith in
+      ap₂ (value_of 0) (ap (λ i. get_or w₃ i 0) e ∙ W.here 0 (omega arith)) (ap (λ i. get_or w₃ i 0) e' ∙ W.here 1 (omega arith)) ∙ is
 
   below₃ : take a w₃ ≡ take a w
-  unfolding w₃
-  below₃ = take-set-le a (set w (a + 2 + 3 * k + 1) x) (a + 2 + 3 * k + 2) y (omega arith) ∙ take-set-le a w (a + 2 + 3 * k + 1) x (omega arith)
+  below₃ = take-before w w₃ (a + 2 + 3 * k + 1) a W.before (omega arith)
 
   mems₃ : up_to store w₃ a ≡ up_to store w a
   mems₃ = ap (λ z. store ++ z) below₃
@@ -183,8 +173,7 @@ module _ (h : ℕ) (store w : List ℕ) (a t k n x y : ℕ) (v : Value) (M : Mad
   counted₃ : get_or w₃ (a + 1) 0 ≡ get_or w (a + 1) 0
   counted₃ = apart (a + 1) (omega arith) (omega arith)
 
-  pub attribute-there : InsertedAttr h store w (set (set w (a + 2 + 3 * k + 1) x) (a + 2 + 3 * k + 2) y) a t t n v
-  unfolding w₃
+  pub attribute-there : InsertedAttr h store w w₃ a t t n v
   attribute-there = record {
     rises = omega arith;
     few = omega arith;
@@ -193,7 +182,7 @@ module _ (h : ℕ) (store w : List ℕ) (a t k n x y : ℕ) (v : Value) (M : Mad
     made = record {
       flag = apart a (omega arith) (omega arith) ∙ M.flag;
       ends = omega (arith, counted₃, M.ends);
-      fits = omega (arith, len₃, M.fits);
+      fits = omega (arith, long, M.fits);
       names = λ j l. subst (λ m. TextIn m (named w₃ a j)) (sym mems₃) (subst (TextIn (up_to store w a)) (sym (names₃ j)) (M.names j (omega (arith, counted₃))));
       rising = λ i j l l'.
           ap₂ order_row (ap₂ text_at mems₃ (names₃ i)) (ap₂ text_at mems₃ (names₃ j)) ∙ M.rising i j l (omega (arith, counted₃));

@@ -1,13 +1,15 @@
 -- A set that was made is a value of the memory up to its end.
-use Rattle.std.proofs.Common.{◌≡◌, ℕ, suc, ◌+◌, ◌-◌, ◌*◌, ◌<◌, ◌≤◌, cond, eqb, List, ◌++◌, length, get_or, take, drop, set, sym, refl, ap, ◌∙◌, subst, ap₂, arith}
-use Rattle.std.proofs.lemmas.List.{get_or-take, get_or-append-add, length-append, length-take-le, take-take, take-append-drop, append_assoc, get_or-set_same, get_or-set_other, length-set}
+use Rattle.std.specs.declared.cmp.Ordering.{Ordering}
+use Rattle.std.proofs.Common.{Result, [], ◌∷◌, ◌≡◌, ℕ, suc, ◌+◌, ◌-◌, ◌*◌, ◌<◌, ◌≤◌, cond, eqb, List, ◌++◌, length, get_or, take, drop, sym, refl, ap, ◌∙◌, subst, ap₂, arith}
+use Rattle.std.proofs.lemmas.List.{get_or-take, get_or-append-add, length-append, length-take-le, take-take, take-append-drop, append_assoc}
 use Rattle.spec.specs.Values as s
 use Rattle.values.specs.Order.{order_row, order_value}
 use Rattle.spec.specs.Values.{nil, empty}
 use Rattle.values.specs.Held.{value_of, base, count, element_at, run, decode, Good, name_at, attr_at, run_attrs, text_at, TextIn, Stands}
-use Rattle.values.specs.Making.{WorkGrows, up_to, kept, meant, gathered, Made, named, kept_attr, gathered_attrs, MadeRecord}
+use Rattle.values.specs.Making.{WorkGrows, Spotted, Written, up_to, kept, meant, gathered, Made, named, kept_attr, gathered_attrs, MadeRecord}
 use Rattle.values.specs.declared.nodes.Value.{Value}
 use Rattle.values.specs.declared.nodes.Value.TheVariants.{Set, Record}
+use Rattle.values.proofs.Rising.{spotted-same}
 use Rattle.values.proofs.Frame.{run-same, run-attrs-same, good-on, decode-on, stands-taller, text-on, text_in-on}
 
 -- the memory later on is the memory before and more
@@ -69,18 +71,30 @@ module _ (h : ℕ) (store w : List ℕ) (a t : ℕ) (M : Made h store w a t) whe
             ap (decode h (up_to store w t)) (element-made k l'') ∙ decode-later store w w a t h (kept w a k) (omega (arith, M.ends)) refl (M.each k l'')));
       }
 
+-- a search in it, told of what it was made from
+pub spotted-made : (h : ℕ) (store w : List ℕ) (a t : ℕ) (v : Value) (r : Result ℕ ℕ) → Made h store w a t → Good h (up_to store w a) v →
+    Spotted (λ j. order_value (decode h (up_to store w t) v) (decode h (up_to store w t) (element_at (up_to store w t) (length store + a) j))) (count (up_to store w t) (length store + a)) r →
+    Spotted (λ j. order_value (decode h (up_to store w a) v) (meant h store w a j)) (get_or w (a + 1) 0) r
+spotted-made h store w a t v r M G S =
+    let m : List ℕ = up_to store w t in
+    let stands : ℕ → Ordering = λ j. order_value (decode h m v) (decode h m (element_at m (length store + a) j)) in
+    spotted-same stands (λ j. order_value (decode h (up_to store w a) v) (meant h store w a j)) (get_or w (a + 1) 0) r
+    (λ j l. ap₂ order_value (decode-later store w w a t h v (omega (arith, M.ends)) refl G) (meant-made h store w a t M j l))
+    (subst (λ k. Spotted stands k r) (counted h store w a t M) S)
+
 -- the set of none
-pub begun : (h : ℕ) (store w : List ℕ) (t : ℕ) → t + 2 ≤ length w → Made h store (set (set w t 0) (t + 1) 0) t (t + 2) × (gathered h store (set (set w t 0) (t + 1) 0) t ≡ nil)
-begun h store w t l =
-    let c : get_or (set (set w t 0) (t + 1) 0) (t + 1) 0 ≡ 0 = get_or-set_same (set w t 0) (t + 1) 0 0 (simp length-set (omega arith)) in (
+pub begun : (h : ℕ) (store w w' : List ℕ) (t : ℕ) → Written w w' t (0 ∷ 0 ∷ []) → t + 2 ≤ length w' → Made h store w' t (t + 2) × (gathered h store w' t ≡ nil)
+begun h store w w' t W l =
+    let e : t ≡ t + 0 = omega arith in
+    let c : get_or w' (t + 1) 0 ≡ 0 = W.here 1 (omega arith) in (
       record {
-        flag = get_or-set_other (set w t 0) (t + 1) t 0 0 (omega arith) ∙ get_or-set_same w t 0 0 (omega arith);
+        flag = ap (λ i. get_or w' i 0) e ∙ W.here 0 (omega arith);
         ends = omega (arith, c);
-        fits = simp length-set l;
+        fits = l;
         each = λ k b. absurd (omega (arith, c));
         rising = λ i j b b'. absurd (omega (arith, c));
       },
-      ap (run (meant h store (set (set w t 0) (t + 1) 0) t) 0) c,
+      ap (run (meant h store w' t) 0) c,
     )
 
 -- the same of a record
@@ -136,14 +150,24 @@ module _ (h : ℕ) (store w : List ℕ) (a t : ℕ) (M : MadeRecord h store w a 
             (λ k l l'. let l'' : k < get_or w (a + 1) 0 = omega arith in ap (decode h m) (attr-made k l'') ∙ decode-later store w w a t h (kept_attr w a k) le refl (M.each k l'')));
       }
 
-pub begun-record : (h : ℕ) (store w : List ℕ) (t : ℕ) → t + 2 ≤ length w → MadeRecord h store (set (set w t 0) (t + 1) 0) t (t + 2) × (gathered_attrs h store (set (set w t 0) (t + 1) 0) t ≡ empty)
-begun-record h store w t l =
-    let w' : List ℕ = set (set w t 0) (t + 1) 0 in
-    let c : get_or (set (set w t 0) (t + 1) 0) (t + 1) 0 ≡ 0 = get_or-set_same (set w t 0) (t + 1) 0 0 (simp length-set (omega arith)) in (
+pub spotted-record : (h : ℕ) (store w : List ℕ) (a t key : ℕ) (r : Result ℕ ℕ) → MadeRecord h store w a t → TextIn (up_to store w a) key →
+    Spotted (λ j. order_row (text_at (up_to store w t) key) (text_at (up_to store w t) (name_at (up_to store w t) (length store + a) j))) (count (up_to store w t) (length store + a)) r →
+    Spotted (λ j. order_row (text_at (up_to store w a) key) (text_at (up_to store w a) (named w a j))) (get_or w (a + 1) 0) r
+spotted-record h store w a t key r M T S =
+    let m : List ℕ = up_to store w t in
+    let stands : ℕ → Ordering = λ j. order_row (text_at m key) (text_at m (name_at m (length store + a) j)) in
+    spotted-same stands (λ j. order_row (text_at (up_to store w a) key) (text_at (up_to store w a) (named w a j))) (get_or w (a + 1) 0) r
+    (λ j l. ap₂ order_row (text-later store w a t key (omega (arith, M.ends)) T) (named-made h store w a t M j l))
+    (subst (λ k. Spotted stands k r) (counted-record h store w a t M) S)
+
+pub begun-record : (h : ℕ) (store w w' : List ℕ) (t : ℕ) → Written w w' t (0 ∷ 0 ∷ []) → t + 2 ≤ length w' → MadeRecord h store w' t (t + 2) × (gathered_attrs h store w' t ≡ empty)
+begun-record h store w w' t W l =
+    let e : t ≡ t + 0 = omega arith in
+    let c : get_or w' (t + 1) 0 ≡ 0 = W.here 1 (omega arith) in (
       record {
-        flag = get_or-set_other (set w t 0) (t + 1) t 0 0 (omega arith) ∙ get_or-set_same w t 0 0 (omega arith);
+        flag = ap (λ i. get_or w' i 0) e ∙ W.here 0 (omega arith);
         ends = omega (arith, c);
-        fits = simp length-set l;
+        fits = l;
         names = λ k b. absurd (omega (arith, c));
         rising = λ i j b b'. absurd (omega (arith, c));
         each = λ k b. absurd (omega (arith, c));

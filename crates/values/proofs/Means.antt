@@ -1,5 +1,6 @@
 -- Rows that are stored mean the values that they were made from, wherever they lie.
-use Rattle.std.proofs.Common.{◌≡◌, ℕ, zero, suc, ◌+◌, ◌-◌, ◌*◌, ◌<◌, ◌≤◌, true, false, cond, ◌&&◌, eqb, ◌⊎◌, List, ◌∷◌, ◌++◌, length, get_or, pos, negsuc, sym, refl, ap, ◌∙◌, subst, ap₂, inl, inr, arith}
+use Rattle.std.specs.declared.cmp.Ordering.TheVariants.{Less}
+use Rattle.std.proofs.Common.{◌≡◌, ℕ, zero, suc, ◌+◌, ◌-◌, ◌*◌, ◌<◌, ◌≤◌, true, false, cond, ◌&&◌, eqb, List, ◌∷◌, ◌++◌, length, get_or, pos, negsuc, sym, refl, ap, ◌∙◌, subst, ap₂, inl, inr, arith}
 use Rattle.std.proofs.lemmas.Bool.{and_parts, and_from, cases_eq, cases_lt, ne_eqb, lt-ltb, le-ltb}
 use Rattle.std.proofs.lemmas.List.{length-append}
 use Rattle.spec.specs.Basics.{Text, less, name, ascending}
@@ -12,7 +13,6 @@ use Rattle.rows.specs.Rows.{value_tag, payload, count_values, count_fields, behi
 use Rattle.values.specs.Order.{order_row, order_value}
 use Rattle.values.specs.Held.{raised, lowered, text_at, TextIn, base, count, value_of, element_at, name_at, attr_at, run, run_attrs, decode, Good, Stands}
 use Rattle.values.specs.Stored.{stored_at, within, within_all, within_attrs, RowsMean}
-use Rattle.values.specs.declared.ordering.Order.TheVariants.{Less}
 use Rattle.values.specs.declared.nodes.Value.TheVariants.{Set, Record}
 use Rattle.values.proofs.Orders.{less-is, less-row}
 use Rattle.values.proofs.Rising.{its_less}

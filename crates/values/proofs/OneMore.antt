@@ -1,33 +1,32 @@
 -- One more value in its place.
-use Rattle.std.proofs.Common.{◌≡◌, ℕ, zero, suc, ◌+◌, ◌-◌, ◌*◌, ◌<◌, ◌≤◌, cond, ◌≢◌, ◌⊎◌, List, ◌++◌, length, get_or, take, drop, set, sym, refl, ap, ◌∙◌, subst, ap₂, inl, inr, arith}
+use Rattle.std.specs.Ordering.{ordering_reverse, is_lt}
+use Rattle.std.specs.declared.cmp.Ordering.TheVariants.{Less, Equal, Greater}
+use Rattle.std.specs.declared.cmp.Ordering.{Ordering}
+use Rattle.std.proofs.Common.{Ok, Err, [], ◌∷◌, ◌≡◌, ℕ, zero, suc, ◌+◌, ◌-◌, ◌*◌, ◌<◌, ◌≤◌, cond, ◌≢◌, List, ◌++◌, length, get_or, take, drop, set, sym, refl, ap, ◌∙◌, subst, ap₂, inl, inr, arith}
 use Rattle.std.proofs.lemmas.Bool.{cases_eq, cases_lt}
 use lib.Seq.{paste}
-use Rattle.std.proofs.lemmas.List.Edits.{length-paste}
 use Rattle.std.proofs.lemmas.List.{get_or-take, get_or-drop, get_or_append_left, get_or-append_right, take-append-le, length-take-le, length-append, length-drop, take-take, take-set-le, get_or-set_same, get_or-set_other, length-set}
 use Rattle.spec.specs.Values as s
 use Rattle.spec.specs.Values.{cons, nil}
 use Rattle.laws.specs.Bridges.{with_value}
 use Rattle.values.specs.Order.{order_value}
 use Rattle.values.specs.Held.{value_of, run, decode, Good}
-use Rattle.values.specs.Making.{up_to, kept, meant, Made, Opened, OpenedThree, Inserted, Spotted, Laid, LaidAttr}
+use Rattle.values.specs.Making.{up_to, kept, meant, Made, Written, Opened, Inserted, Spotted, Laid, LaidAttr}
 use Rattle.values.specs.declared.nodes.Value.{Value}
-use Rattle.values.specs.declared.ordering.Order.{Order}
-use Rattle.values.specs.declared.ordering.Order.TheVariants.{Less, Same, Greater}
-use Rattle.values.specs.declared.sets.Spot.TheVariants.{There, New}
-use Rattle.values.proofs.Orders.{is-less, less-is, order_same}
-use Rattle.values.proofs.Rising.{flip, values, rising-new}
+use Rattle.values.proofs.Orders.{less-is, order_same}
+use Rattle.values.proofs.Rising.{values, rising-new}
 
-with-by : (v w : s.Value) (ws : s.Values) (o : Order) → order_value v w ≡ o →
-    with_value v (cons w ws) ≡ cond (is-less o) (cons v (cons w ws)) (cond (is-less (flip o)) (cons w (with_value v ws)) (cons v ws))
+with-by : (v w : s.Value) (ws : s.Values) (o : Ordering) → order_value v w ≡ o →
+    with_value v (cons w ws) ≡ cond (is_lt o) (cons v (cons w ws)) (cond (is_lt (ordering_reverse o)) (cons w (with_value v ws)) (cons v ws))
 with-by v w ws o e =
-    ap₂ (λ a b. cond a (cons v (cons w ws)) (cond b (cons w (with_value v ws)) (cons v ws))) (less-is v w ∙ ap is-less e) (less-is w v ∙ ap is-less (values.turn v w ∙ ap flip e))
+    ap₂ (λ a b. cond a (cons v (cons w ws)) (cond b (cons w (with_value v ws)) (cons v ws))) (less-is v w ∙ ap is_lt e) (less-is w v ∙ ap is_lt (values.turn v w ∙ ap ordering_reverse e))
 
-pub with-there : (f : ℕ → s.Value) (v : s.Value) (i r k : ℕ) → i ≤ k → k < i + r → ((j : ℕ) → i ≤ j → j < k → order_value v (f j) ≡ Greater) → order_value v (f k) ≡ Same → with_value v (run f i r) ≡ run f i r
+pub with-there : (f : ℕ → s.Value) (v : s.Value) (i r k : ℕ) → i ≤ k → k < i + r → ((j : ℕ) → i ≤ j → j < k → order_value v (f j) ≡ Greater) → order_value v (f k) ≡ Equal → with_value v (run f i r) ≡ run f i r
 with-there f v i zero k l l' p e = absurd (omega arith)
 with-there f v i (suc r) k l l' p e = elim (cases_eq i k) [
   | inl q ↦
-      let s : order_value v (f i) ≡ Same = ap (λ n. order_value v (f n)) q ∙ e in
-      with-by v (f i) (run f (i + 1) r) Same s ∙ ap (λ x. cons x (run f (i + 1) r)) (order_same v (f i) s)
+      let s : order_value v (f i) ≡ Equal = ap (λ n. order_value v (f n)) q ∙ e in
+      with-by v (f i) (run f (i + 1) r) Equal s ∙ ap (λ x. cons x (run f (i + 1) r)) (order_same v (f i) s)
   | inr n ↦ with-by v (f i) (run f (i + 1) r) Greater (p i (omega arith) (omega arith)) ∙ ap (cons (f i)) (with-there f v (i + 1) r k (omega arith) (omega arith) (λ j a b. p j (omega arith) b) e)
 ]
 
@@ -51,10 +50,21 @@ at_before w w' n i e l = sym (get_or-take n w' i 0 l) ∙ ap (λ x. get_or x i 0
 pub take-before : (w w' : List ℕ) (n i : ℕ) → take n w' ≡ take n w → i ≤ n → take i w' ≡ take i w
 take-before w w' n i e l = sym (take-take i n w' l) ∙ ap (take i) e ∙ take-take i n w l
 
+-- what holds of each of n and of one more, holds of each of them with the one in its place
+pub for-each : {X : Type 0} (P : X → Type 0) (old new : ℕ → X) (z : X) (n k : ℕ) → k ≤ n → ((j : ℕ) → j < n → P (old j)) → P z → ((j : ℕ) → j < k → new j ≡ old j) → new k ≡ z → ((j : ℕ) → k ≤ j → j < n → new (j + 1) ≡ old j) →
+    (j : ℕ) → j < n + 1 → P (new j)
+for-each P old new z n k le each here b₁ b₂ b₃ j l = elim (cases_lt j k) [
+  | inl b ↦ subst P (sym (b₁ j b)) (each j (omega arith))
+  | inr b ↦ elim (cases_eq j k) [
+    | inl q ↦ subst P (sym (ap new q ∙ b₂)) here
+    | inr u ↦ let q : j ≡ j - 1 + 1 = omega arith in subst P (sym (ap new q ∙ b₃ (j - 1) (omega arith) (omega arith))) (each (j - 1) (omega arith))
+  ]
+]
+
 module _ (h : ℕ) (store w w₁ : List ℕ) (a t k x y : ℕ) (v : Value) (M : Made h store w a t) (G : Good h (up_to store w a) v) (is : value_of 0 x y ≡ v)
-    (S : Spotted (λ j. order_value (decode h (up_to store w a) v) (meant h store w a j)) (get_or w (a + 1) 0) (New k)) (O : Opened w w₁ (a + 2 + 2 * k) t x y) (long : length w₁ ≡ length w) (room : t + 2 ≤ length w) where
+    (S : Spotted (λ j. order_value (decode h (up_to store w a) v) (meant h store w a j)) (get_or w (a + 1) 0) (Err k)) (O : Opened w w₁ (a + 2 + 2 * k) t (x ∷ y ∷ [])) (long : length w₁ ≡ length w) (room : t + 2 ≤ length w) where
   w₂ : List ℕ
-  w₂ = set w₁ (a + 1) (get_or w (a + 1) 0 + 1)
+  w₂ = set w₁ (a + 1) (get_or w₁ (a + 1) 0 + 1)
 
   len : length w₂ ≡ length w
   unfolding w₂
@@ -62,21 +72,27 @@ module _ (h : ℕ) (store w w₁ : List ℕ) (a t k x y : ℕ) (v : Value) (M : 
 
   below : take a w₂ ≡ take a w
   unfolding w₂
-  below = take-set-le a w₁ (a + 1) (get_or w (a + 1) 0 + 1) (omega arith) ∙ take-before w w₁ (a + 2 + 2 * k) a O.before (omega arith)
+  below = take-set-le a w₁ (a + 1) (get_or w₁ (a + 1) 0 + 1) (omega arith) ∙ take-before w w₁ (a + 2 + 2 * k) a O.before (omega arith)
 
   other : (i : ℕ) → i ≢ a + 1 → get_or w₂ i 0 ≡ get_or w₁ i 0
   unfolding w₂
-  other i n = get_or-set_other w₁ (a + 1) i (get_or w (a + 1) 0 + 1) 0 n
+  other i n = get_or-set_other w₁ (a + 1) i (get_or w₁ (a + 1) 0 + 1) 0 n
 
   counted : get_or w₂ (a + 1) 0 ≡ get_or w (a + 1) 0 + 1
   unfolding w₂
-  counted = get_or-set_same w₁ (a + 1) (get_or w (a + 1) 0 + 1) 0 (omega (arith, M.ends, M.fits))
+  counted = get_or-set_same w₁ (a + 1) (get_or w₁ (a + 1) 0 + 1) 0 (omega (arith, M.ends, M.fits)) ∙ ap (λ n. n + 1) (at_before w w₁ (a + 2 + 2 * k) (a + 1) O.before (omega arith))
 
   kept_low : (j : ℕ) → j < k → kept w₂ a j ≡ kept w a j
   kept_low j l = ap₂ (value_of 0) (other (a + 2 + 2 * j) (omega arith) ∙ at_before w w₁ (a + 2 + 2 * k) (a + 2 + 2 * j) O.before (omega arith)) (other (a + 2 + 2 * j + 1) (omega arith) ∙ at_before w w₁ (a + 2 + 2 * k) (a + 2 + 2 * j + 1) O.before (omega arith))
 
+  first : get_or w₁ (a + 2 + 2 * k) 0 ≡ x
+  first = let e : a + 2 + 2 * k ≡ a + 2 + 2 * k + 0 = omega arith in ap (λ i. get_or w₁ i 0) e ∙ O.here 0 (omega arith)
+
+  second : get_or w₁ (a + 2 + 2 * k + 1) 0 ≡ y
+  second = O.here 1 (omega arith)
+
   kept_here : kept w₂ a k ≡ v
-  kept_here = ap₂ (value_of 0) (other (a + 2 + 2 * k) (omega arith) ∙ O.first) (other (a + 2 + 2 * k + 1) (omega arith) ∙ O.second) ∙ is
+  kept_here = ap₂ (value_of 0) (other (a + 2 + 2 * k) (omega arith) ∙ first) (other (a + 2 + 2 * k + 1) (omega arith) ∙ second) ∙ is
 
   kept_high : (j : ℕ) → k ≤ j → j < get_or w (a + 1) 0 → kept w₂ a (j + 1) ≡ kept w a j
   kept_high j l l' =
@@ -90,17 +106,9 @@ module _ (h : ℕ) (store w w₁ : List ℕ) (a t k x y : ℕ) (v : Value) (M : 
   mems = ap (λ z. store ++ z) below
 
   each : (j : ℕ) → j < get_or w (a + 1) 0 + 1 → Good h (up_to store w a) (kept w₂ a j)
-  each j l = elim (cases_lt j k) [
-    | inl b ↦ subst (Good h (up_to store w a)) (sym (kept_low j b)) (M.each j (omega (arith, S.0)))
-    | inr b ↦ elim (cases_eq j k) [
-      | inl q ↦ subst (Good h (up_to store w a)) (sym (ap (kept w₂ a) q ∙ kept_here)) G
-      | inr n ↦
-          let q : j ≡ j - 1 + 1 = omega arith in
-          subst (Good h (up_to store w a)) (sym (ap (kept w₂ a) q ∙ kept_high (j - 1) (omega arith) (omega arith))) (M.each (j - 1) (omega arith))
-    ]
-  ]
+  each = for-each (Good h (up_to store w a)) (kept w a) (kept w₂ a) v (get_or w (a + 1) 0) k S.0 M.each G kept_low kept_here kept_high
 
-  pub inserted : Inserted h store w (set w₁ (a + 1) (get_or w (a + 1) 0 + 1)) a t (t + 2) v
+  pub inserted : Inserted h store w (set w₁ (a + 1) (get_or w₁ (a + 1) 0 + 1)) a t (t + 2) v
   unfolding w₂
   inserted = record {
     rises = omega arith;
@@ -128,7 +136,7 @@ module _ (h : ℕ) (store w w₁ : List ℕ) (a t k x y : ℕ) (v : Value) (M : 
       plus n = omega arith
 
 -- a value that is there already
-pub inserted-there : (h : ℕ) (store w : List ℕ) (a t k : ℕ) (v : Value) → Made h store w a t → Spotted (λ j. order_value (decode h (up_to store w a) v) (meant h store w a j)) (get_or w (a + 1) 0) (There k) → Inserted h store w w a t t v
+pub inserted-there : (h : ℕ) (store w : List ℕ) (a t k : ℕ) (v : Value) → Made h store w a t → Spotted (λ j. order_value (decode h (up_to store w a) v) (meant h store w a j)) (get_or w (a + 1) 0) (Ok k) → Inserted h store w w a t t v
 inserted-there h store w a t k v M S = record {
   rises = omega arith;
   few = omega arith;
@@ -138,90 +146,79 @@ inserted-there h store w a t k v M S = record {
   holds = sym (with-there (meant h store w a) (decode h (up_to store w a) v) 0 (get_or w (a + 1) 0) k (omega arith) (omega (arith, S.0)) (λ j x l. S.2 j l) S.1);
 }
 
--- room for some numbers
-module _ (w : List ℕ) (at t by : ℕ) (le : at ≤ t) (room : t + by ≤ length w) where
-  front : length (take (at + by) w) ≡ at + by
-  front = length-take-le (at + by) w (omega arith)
+-- numbers of another list at a place of this one
+module _ (w : List ℕ) (at : ℕ) (xs : List ℕ) (n : ℕ) (le : n ≤ length xs) (room : at + n ≤ length w) where
+  front : length (take at w) ≡ at
+  front = length-take-le at w (omega arith)
 
-  middle : length (take (t - at) (drop at w)) ≡ t - at
-  middle = length-take-le (t - at) (drop at w) (simp length-drop (omega arith))
+  middle : length (take n xs) ≡ n
+  middle = length-take-le n xs le
 
-  two : length (take (at + by) w ++ take (t - at) (drop at w)) ≡ t + by
+  two : length (take at w ++ take n xs) ≡ at + n
   two = simp length-append (omega (arith, front, middle))
 
-  long-paste : length (paste w (at + by) (drop at w) (t - at)) ≡ length w
-  long-paste = length-paste w (at + by) (drop at w) (t - at) (omega arith) (simp length-drop (omega arith))
+  pub pasted-before : take at (paste w at xs n) ≡ take at w
+  pasted-before =
+      take-append-le at (take at w ++ take n xs) (drop (at + n) w) (omega (arith, two))
+      ∙ take-append-le at (take at w) (take n xs) (omega (arith, front))
+      ∙ take-take at at w (omega arith)
 
-  paste-behind : (i : ℕ) → at ≤ i → i < t → get_or (paste w (at + by) (drop at w) (t - at)) (i + by) 0 ≡ get_or w i 0
-  paste-behind i l l' =
-      let e : i + by - (at + by) ≡ i - at = omega arith in
-      let e' : at + (i - at) ≡ i = omega arith in
-      get_or_append_left (take (at + by) w ++ take (t - at) (drop at w)) (drop (at + by + (t - at)) w) 0 (i + by) (omega (arith, two))
-      ∙ get_or-append_right (take (at + by) w) (take (t - at) (drop at w)) (at + by) (i + by) 0 front (omega arith)
-      ∙ ap (λ n. get_or (take (t - at) (drop at w)) n 0) e
-      ∙ get_or-take (t - at) (drop at w) (i - at) 0 (omega arith)
-      ∙ get_or-drop at w (i - at) 0
-      ∙ ap (λ n. get_or w n 0) e'
+  pub pasted-here : (j : ℕ) → j < n → get_or (paste w at xs n) (at + j) 0 ≡ get_or xs j 0
+  pasted-here j l =
+      let e : at + j - at ≡ j = omega arith in
+      get_or_append_left (take at w ++ take n xs) (drop (at + n) w) 0 (at + j) (omega (arith, two))
+      ∙ get_or-append_right (take at w) (take n xs) at (at + j) 0 front (omega arith)
+      ∙ ap (λ i. get_or (take n xs) i 0) e ∙ get_or-take n xs j 0 l
 
-  paste-beyond : (i : ℕ) → t + by ≤ i → get_or (paste w (at + by) (drop at w) (t - at)) i 0 ≡ get_or w i 0
-  paste-beyond i l =
-      let e : at + by + (t - at) + (i - (t + by)) ≡ i = omega arith in
-      get_or-append_right (take (at + by) w ++ take (t - at) (drop at w)) (drop (at + by + (t - at)) w) (t + by) i 0 two l
-      ∙ get_or-drop (at + by + (t - at)) w (i - (t + by)) 0 ∙ ap (λ n. get_or w n 0) e
+  pub pasted-beyond : (i : ℕ) → at + n ≤ i → get_or (paste w at xs n) i 0 ≡ get_or w i 0
+  pasted-beyond i l =
+      let e : at + n + (i - (at + n)) ≡ i = omega arith in
+      get_or-append_right (take at w ++ take n xs) (drop (at + n) w) (at + n) i 0 two l
+      ∙ get_or-drop (at + n) w (i - (at + n)) 0 ∙ ap (λ j. get_or w j 0) e
 
-  paste-before : take at (paste w (at + by) (drop at w) (t - at)) ≡ take at w
-  paste-before =
-      take-append-le at (take (at + by) w ++ take (t - at) (drop at w)) (drop (at + by + (t - at)) w) (omega (arith, two))
-      ∙ take-append-le at (take (at + by) w) (take (t - at) (drop at w)) (omega (arith, front))
-      ∙ take-take at (at + by) w (omega arith)
+pub written : (w : List ℕ) (at : ℕ) (xs : List ℕ) → at + length xs ≤ length w → Written w (paste w at xs (length xs)) at xs
+written w at xs room = record {
+  before = pasted-before w at xs (length xs) (omega arith) room;
+  here = pasted-here w at xs (length xs) (omega arith) room;
+  beyond = pasted-beyond w at xs (length xs) (omega arith) room;
+}
 
-pub opened : (w : List ℕ) (at t x y : ℕ) → at ≤ t → t + 2 ≤ length w → Opened w (set (set (paste w (at + 2) (drop at w) (t - at)) at x) (at + 1) y) at t x y
-opened w at t x y le room =
-    let p : List ℕ = paste w (at + 2) (drop at w) (t - at) in
-    let n : length p ≡ length w = long-paste w at t 2 le room in
+-- what lies from a place up to t, moved up, and then numbers at the place
+pub opened : (w w' : List ℕ) (at t : ℕ) (xs : List ℕ) → at ≤ t → t + length xs ≤ length w → Written (paste w (at + length xs) (drop at w) (t - at)) w' at xs → Opened w w' at t xs
+opened w w' at t xs le room W =
+    let n : ℕ = length xs in
+    let p : List ℕ = paste w (at + n) (drop at w) (t - at) in
+    let some : t - at ≤ length (drop at w) = simp length-drop (omega arith) in
+    let fits : at + n + (t - at) ≤ length w = omega arith in
     record {
-      before = take-set-le at (set p at x) (at + 1) y (omega arith) ∙ take-set-le at p at x (omega arith) ∙ paste-before w at t 2 le room;
-      first = get_or-set_other (set p at x) (at + 1) at y 0 (omega arith) ∙ get_or-set_same p at x 0 (omega arith);
-      second = get_or-set_same (set p at x) (at + 1) y 0 (simp length-set (omega arith));
-      behind = λ i l l'. get_or-set_other (set p at x) (at + 1) (i + 2) y 0 (omega arith) ∙ get_or-set_other p at (i + 2) x 0 (omega arith) ∙ paste-behind w at t 2 le room i l l';
-      beyond = λ i l. get_or-set_other (set p at x) (at + 1) i y 0 (omega arith) ∙ get_or-set_other p at i x 0 (omega arith) ∙ paste-beyond w at t 2 le room i l;
-    }
-
-pub opened-three : (w : List ℕ) (at t x y z : ℕ) → at ≤ t → t + 3 ≤ length w → OpenedThree w (set (set (set (paste w (at + 3) (drop at w) (t - at)) at x) (at + 1) y) (at + 2) z) at t x y z
-opened-three w at t x y z le room =
-    let p : List ℕ = paste w (at + 3) (drop at w) (t - at) in
-    let n : length p ≡ length w = long-paste w at t 3 le room in
-    let q : List ℕ = set (set p at x) (at + 1) y in
-    record {
-      before = take-set-le at q (at + 2) z (omega arith) ∙ take-set-le at (set p at x) (at + 1) y (omega arith) ∙ take-set-le at p at x (omega arith) ∙ paste-before w at t 3 le room;
-      first = get_or-set_other q (at + 2) at z 0 (omega arith) ∙ get_or-set_other (set p at x) (at + 1) at y 0 (omega arith) ∙ get_or-set_same p at x 0 (omega arith);
-      second = get_or-set_other q (at + 2) (at + 1) z 0 (omega arith) ∙ get_or-set_same (set p at x) (at + 1) y 0 (simp length-set (omega arith));
-      third = get_or-set_same q (at + 2) z 0 (simp length-set (omega arith));
-      behind = λ i l l'. get_or-set_other q (at + 2) (i + 3) z 0 (omega arith) ∙ get_or-set_other (set p at x) (at + 1) (i + 3) y 0 (omega arith) ∙ get_or-set_other p at (i + 3) x 0 (omega arith) ∙ paste-behind w at t 3 le room i l l';
-      beyond = λ i l. get_or-set_other q (at + 2) i z 0 (omega arith) ∙ get_or-set_other (set p at x) (at + 1) i y 0 (omega arith) ∙ get_or-set_other p at i x 0 (omega arith) ∙ paste-beyond w at t 3 le room i l;
+      before = W.before ∙ take-before w p (at + n) at (pasted-before w (at + n) (drop at w) (t - at) some fits) (omega arith);
+      here = W.here;
+      behind = λ i l l'.
+          let e : i + n ≡ at + n + (i - at) = omega arith in
+          let e' : at + (i - at) ≡ i = omega arith in
+          W.beyond (i + n) (omega arith) ∙ ap (λ j. get_or p j 0) e ∙ pasted-here w (at + n) (drop at w) (t - at) some fits (i - at) (omega arith) ∙ get_or-drop at w (i - at) 0 ∙ ap (λ j. get_or w j 0) e';
+      beyond = λ i l. W.beyond i (omega arith) ∙ pasted-beyond w (at + n) (drop at w) (t - at) some fits i (omega arith);
     }
 
 -- a value that waits, and an attribute
-pub laid : (w : List ℕ) (at x y : ℕ) (v : Value) → at + 2 ≤ length w → value_of 0 x y ≡ v → Laid w (set (set w at x) (at + 1) y) at v
-laid w at x y v room e =
-    let z : at + 2 * 0 ≡ at = omega arith in
+pub laid : (w w' : List ℕ) (at x y : ℕ) (v : Value) → Written w w' at (x ∷ y ∷ []) → value_of 0 x y ≡ v → Laid w w' at v
+laid w w' at x y v W e =
+    let z : at + 2 * 0 ≡ at + 0 = omega arith in
+    let z' : at + 2 * 0 + 1 ≡ at + 1 = omega arith in
     record {
-      before = take-set-le at (set w at x) (at + 1) y (omega arith) ∙ take-set-le at w at x (omega arith);
-      is = ap₂ (value_of 0)
-          (ap (λ i. get_or (set (set w at x) (at + 1) y) i 0) z ∙ get_or-set_other (set w at x) (at + 1) at y 0 (omega arith) ∙ get_or-set_same w at x 0 (omega arith))
-          (ap (λ i. get_or (set (set w at x) (at + 1) y) (i + 1) 0) z ∙ get_or-set_same (set w at x) (at + 1) y 0 (simp length-set (omega arith))) ∙ e;
-      beyond = λ i l. get_or-set_other (set w at x) (at + 1) i y 0 (omega arith) ∙ get_or-set_other w at i x 0 (omega arith);
+      before = W.before;
+      is = ap₂ (value_of 0) (ap (λ i. get_or w' i 0) z ∙ W.here 0 (omega arith)) (ap (λ i. get_or w' i 0) z' ∙ W.here 1 (omega arith)) ∙ e;
+      beyond = λ i l. W.beyond i (omega arith);
     }
 
-pub laid-attr : (w : List ℕ) (at n x y : ℕ) (v : Value) → at + 3 ≤ length w → value_of 0 x y ≡ v → LaidAttr w (set (set (set w at n) (at + 1) x) (at + 2) y) at n v
-laid-attr w at n x y v room e =
-    let z : at + 3 * 0 ≡ at = omega arith in
-    let q : List ℕ = set (set w at n) (at + 1) x in
+pub laid-attr : (w w' : List ℕ) (at n x y : ℕ) (v : Value) → Written w w' at (n ∷ x ∷ y ∷ []) → value_of 0 x y ≡ v → LaidAttr w w' at n v
+laid-attr w w' at n x y v W e =
+    let z : at + 3 * 0 ≡ at + 0 = omega arith in
+    let z' : at + 3 * 0 + 1 ≡ at + 1 = omega arith in
+    let z'' : at + 3 * 0 + 2 ≡ at + 2 = omega arith in
     record {
-      before = take-set-le at q (at + 2) y (omega arith) ∙ take-set-le at (set w at n) (at + 1) x (omega arith) ∙ take-set-le at w at n (omega arith);
-      name = ap (λ i. get_or (set q (at + 2) y) i 0) z ∙ get_or-set_other q (at + 2) at y 0 (omega arith) ∙ get_or-set_other (set w at n) (at + 1) at x 0 (omega arith) ∙ get_or-set_same w at n 0 (omega arith);
-      is = ap₂ (value_of 0)
-          (ap (λ i. get_or (set q (at + 2) y) (i + 1) 0) z ∙ get_or-set_other q (at + 2) (at + 1) y 0 (omega arith) ∙ get_or-set_same (set w at n) (at + 1) x 0 (simp length-set (omega arith)))
-          (ap (λ i. get_or (set q (at + 2) y) (i + 2) 0) z ∙ get_or-set_same q (at + 2) y 0 (simp length-set (omega arith))) ∙ e;
-      beyond = λ i l. get_or-set_other q (at + 2) i y 0 (omega arith) ∙ get_or-set_other (set w at n) (at + 1) i x 0 (omega arith) ∙ get_or-set_other w at i n 0 (omega arith);
+      before = W.before;
+      name = ap (λ i. get_or w' i 0) z ∙ W.here 0 (omega arith);
+      is = ap₂ (value_of 0) (ap (λ i. get_or w' i 0) z' ∙ W.here 1 (omega arith)) (ap (λ i. get_or w' i 0) z'' ∙ W.here 2 (omega arith)) ∙ e;
+      beyond = λ i l. W.beyond i (omega arith);
     }

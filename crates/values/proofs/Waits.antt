@@ -1,5 +1,5 @@
 -- What waits for its set or record: as one more is laid down, and as the work memory changes elsewhere. For those who evaluate the elements of a set one by one.
-use Rattle.std.proofs.Common.{◌≡◌, ℕ, ◌+◌, ◌*◌, ◌<◌, ◌≤◌, List, get_or, sym, ap, ◌∙◌, ap₂, arith}
+use Rattle.std.proofs.Common.{◌≡◌, ℕ, ◌+◌, ◌*◌, ◌<◌, ◌≤◌, List, get_or, ap, ◌∙◌, ap₂, arith}
 use Rattle.values.specs.Held.{value_of}
 use Rattle.values.specs.Making.{waiting, waiting_name, waiting_attr, Laid, LaidAttr}
 use Rattle.values.specs.declared.nodes.Value.{Value}

@@ -1,13 +1,13 @@
 -- What a value of the running code stands for: in a memory, to a height.
 -- A set's node is `[length, count, (tag, payload)*, ..]`, a record's `[length, count, (name, tag, payload)*, ..]`. In a node that is stored the first number
 -- is its length, and what it holds lies at offsets from the node itself; in one that was made on the way it is 0, and what it holds lies at places of the memory.
+use Rattle.std.specs.declared.cmp.Ordering.TheVariants.{Less}
 use Rattle.std.specs.Prelude.{◌≡◌, ℕ, zero, suc, ◌+◌, ◌-◌, ◌*◌, ◌<◌, ◌≤◌, false, cond, List, [], length, take, drop, ℤ, pos, negsuc, Some, None, Option, ◌==◌, nat_lt, slice_index}
 use Rattle.std.proofs.Math.Option as o
 use Rattle.spec.specs.Basics.{Text}
 use Rattle.spec.specs.Values as s
 use Rattle.spec.specs.Values.{EntityUID, bool, int, string, entity_uid, prim, set, record_of, Values, nil, cons, Attrs, empty, attr}
 use Rattle.values.specs.Order.{order_row, order_value}
-use Rattle.values.specs.declared.ordering.Order.TheVariants.{Less}
 use Rattle.values.specs.declared.nodes.Value.{Value}
 use Rattle.values.specs.declared.nodes.Value.TheVariants.{Bool as B, Int, String, Entity, Set, Record}
 

@@ -1,6 +1,8 @@
 -- Sets and records that are made at the top of the work memory: place a of the work has the node's 0, then its count, then its entries up to the top t.
 -- All that the node holds lies below it.
-use Rattle.std.specs.Prelude.{◌≡◌, ℕ, zero, suc, ◌+◌, ◌*◌, ◌<◌, ◌≤◌, List, [], ◌∷◌, ◌++◌, length, take, slice_index, slice_index_or}
+use Rattle.std.specs.declared.cmp.Ordering.{Ordering}
+use Rattle.std.specs.declared.cmp.Ordering.TheVariants.{Less, Equal, Greater}
+use Rattle.std.specs.Prelude.{◌≡◌, ℕ, zero, suc, ◌+◌, ◌*◌, ◌<◌, ◌≤◌, List, [], ◌∷◌, ◌++◌, length, take, slice_index, slice_index_or, Result, Ok, Err}
 use Rattle.spec.specs.Basics.{Text, insert_all, name}
 use Rattle.spec.specs.Values as s
 use Rattle.spec.specs.Values.{Values, Attrs, to_values, to_attrs, code}
@@ -9,10 +11,6 @@ use Rattle.values.specs.Order.{order_row, order_value}
 use Rattle.values.specs.Held.{value_of, decode, Good, run, run_attrs, text_at, TextIn, Stands}
 use Rattle.values.specs.declared.nodes.Value.{Value}
 use Rattle.values.specs.declared.nodes.Value.TheVariants.{Bool as B, Int, String, Entity, Set, Record}
-use Rattle.values.specs.declared.ordering.Order.{Order}
-use Rattle.values.specs.declared.ordering.Order.TheVariants.{Less, Same, Greater}
-use Rattle.values.specs.declared.sets.Spot.{Spot}
-use Rattle.values.specs.declared.sets.Spot.TheVariants.{There, New}
 
 -- the memory up to a place of the work
 abbrev pub up_to : List ℕ → List ℕ → ℕ → List ℕ
@@ -25,12 +23,12 @@ WorkGrows =
 
 -- ---- where something is, or where it belongs
 -- among n in order: o k is how it stands to the k-th
-abbrev pub Spotted : (ℕ → Order) → ℕ → Spot → Type 0
-Spotted o n (There k) = (k < n) × (o k ≡ Same) × ((j : ℕ) → j < k → o j ≡ Greater)
-Spotted o n (New k) = (k ≤ n) × (k < n → o k ≡ Less) × ((j : ℕ) → j < k → o j ≡ Greater)
+abbrev pub Spotted : (ℕ → Ordering) → ℕ → Result ℕ ℕ → Type 0
+Spotted o n (Ok k) = (k < n) × (o k ≡ Equal) × ((j : ℕ) → j < k → o j ≡ Greater)
+Spotted o n (Err k) = (k ≤ n) × (k < n → o k ≡ Less) × ((j : ℕ) → j < k → o j ≡ Greater)
 
 -- a search by halves: what is below lo is too small, what is from hi on too large
-pub record Seeking (o : ℕ → Order) (n lo hi : ℕ) : Type 0 where
+pub record Seeking (o : ℕ → Ordering) (n lo hi : ℕ) : Type 0 where
   pub within : lo ≤ hi
   pub ends : hi ≤ n
   pub below : (j : ℕ) → j < lo → o j ≡ Greater
@@ -45,22 +43,18 @@ tag_of (Entity p) = 3
 tag_of (Set p) = 4
 tag_of (Record p) = 5
 
--- room for two numbers at a place, with these in it
-pub record Opened (w w' : List ℕ) (at t x y : ℕ) : Type 0 where
+-- numbers at a place, and nothing else
+pub record Written (w w' : List ℕ) (at : ℕ) (xs : List ℕ) : Type 0 where
   pub before : take at w' ≡ take at w
-  pub first : slice_index_or w' at 0 ≡ x
-  pub second : slice_index_or w' (at + 1) 0 ≡ y
-  pub behind : (i : ℕ) → at ≤ i → i < t → slice_index w' (i + 2) ≡ slice_index w i
-  pub beyond : (i : ℕ) → t + 2 ≤ i → slice_index w' i ≡ slice_index w i
+  pub here : (j : ℕ) → j < length xs → slice_index w' (at + j) ≡ slice_index xs j
+  pub beyond : (i : ℕ) → at + length xs ≤ i → slice_index w' i ≡ slice_index w i
 
--- the same with three
-pub record OpenedThree (w w' : List ℕ) (at t x y z : ℕ) : Type 0 where
+-- the same, with what lay from there up to t behind them
+pub record Opened (w w' : List ℕ) (at t : ℕ) (xs : List ℕ) : Type 0 where
   pub before : take at w' ≡ take at w
-  pub first : slice_index_or w' at 0 ≡ x
-  pub second : slice_index_or w' (at + 1) 0 ≡ y
-  pub third : slice_index_or w' (at + 2) 0 ≡ z
-  pub behind : (i : ℕ) → at ≤ i → i < t → slice_index w' (i + 3) ≡ slice_index w i
-  pub beyond : (i : ℕ) → t + 3 ≤ i → slice_index w' i ≡ slice_index w i
+  pub here : (j : ℕ) → j < length xs → slice_index w' (at + j) ≡ slice_index xs j
+  pub behind : (i : ℕ) → at ≤ i → i < t → slice_index w' (i + length xs) ≡ slice_index w i
+  pub beyond : (i : ℕ) → t + length xs ≤ i → slice_index w' i ≡ slice_index w i
 
 -- ---- a set that is being made
 abbrev pub kept : List ℕ → ℕ → ℕ → Value

@@ -5,7 +5,9 @@ use Rattle.std.proofs.lemmas.List.{length-append, length-take-le, length-replica
 use Rattle.spec.specs.Basics.{Text, all}
 use Rattle.spec.specs.Bytes.{Bytes, encode_word, encode_text, encode_elements, encode_pattern}
 use Rattle.spec.specs.Calls.{is_word, all_below, is_bytes, is_pattern}
-use Rattle.wire.specs.Read.{Read, got, stops, past, turn, follow, big_endian, read_word, read_run, read_text, read_elements, read_pattern}
+use Rattle.words.specs.Words.{big_endian}
+use Rattle.words.proofs.Round.{word-long, big_endian-word}
+use Rattle.wire.specs.Read.{Read, got, stops, past, turn, follow, read_word, read_run, read_text, read_elements, read_pattern}
 use Rattle.wire.proofs.Exact.{Seen, whole, partly, Exact, exact_same, exact-behind}
 
 -- ---- all of a list
@@ -27,14 +29,6 @@ below_get (b ∷ bs) h zero = ltb-true b 256 (and_parts (ltb b 256) (all_below 2
 below_get (b ∷ bs) h (suc i) = below_get bs (and_parts (ltb b 256) (all_below 256 bs) h).1 i
 
 -- ---- a number
-pub word-long : (n : ℕ) → length (encode_word n) ≡ 8
-unfolding encode_word
-word-long n = refl
-
-word_value : (n : ℕ) (rest : Bytes) → n < 18446744073709551616 → big_endian (encode_word n ++ rest) ≡ n
-unfolding encode_word
-word_value n rest h = omega arith
-
 word-full : (bs : Bytes) → 8 ≤ length bs → read_word bs ≡ got (big_endian bs) 8
 unfolding read_word
 word-full bs h = rw (le-leb 8 (length bs) h)
@@ -46,7 +40,7 @@ word-short bs h = rw (lt-leb 8 (length bs) h)
 word_back : (n : ℕ) (rest : Bytes) → is_word n ≡ true → read_word (encode_word n ++ rest) ≡ got n (length (encode_word n))
 word_back n rest h =
     let s : 8 ≤ length (encode_word n ++ rest) = omega (arith, length-append (encode_word n) rest, word-long n) in
-    word-full (encode_word n ++ rest) s ∙ ap (λ m. got m 8) (word_value n rest (ltb-true n _ h)) ∙ ap (λ k. got n k) (sym (word-long n))
+    word-full (encode_word n ++ rest) s ∙ ap (λ m. got m 8) (big_endian-word n rest (ltb-true n _ h)) ∙ ap (λ k. got n k) (sym (word-long n))
 
 -- eight bytes are those of a number
 word-is : (bs : Bytes) → ((i : ℕ) → get_or bs i 0 < 256) → 8 ≤ length bs → bs ≡ encode_word (big_endian bs) ++ drop 8 bs

@@ -1,8 +1,9 @@
 -- What bytes say: something and how many bytes it takes, or how many of them can be the beginning of it. Assumes nothing: these are definitions.
-use Rattle.std.specs.Prelude.{ℕ, zero, suc, ◌+◌, ◌*◌, cond, List, [], ◌∷◌, length, take, drop, ◌==◌, nat_le, slice_index}
+use Rattle.std.specs.Prelude.{ℕ, zero, suc, ◌+◌, cond, List, [], ◌∷◌, length, take, drop, ◌==◌, nat_le}
 use Rattle.std.proofs.Math.Option.{Option, some, none}
 use Rattle.spec.specs.Basics.{Text}
 use Rattle.spec.specs.Bytes.{Bytes}
+use Rattle.words.specs.Words.{big_endian}
 
 pub data Read (X : Type 0) : Type 0 where
   got : X → ℕ → Read X
@@ -24,9 +25,6 @@ follow (got x n) bs f = past n (f x (drop n bs))
 follow (stops k) bs f = stops k
 
 -- a number of eight bytes, the greatest first
-abbrev pub big_endian : Bytes → ℕ
-big_endian bs = slice_index bs 0 * 72057594037927936 + slice_index bs 1 * 281474976710656 + slice_index bs 2 * 1099511627776 + slice_index bs 3 * 4294967296 + slice_index bs 4 * 16777216 + slice_index bs 5 * 65536 + slice_index bs 6 * 256 + slice_index bs 7
-
 unfoldable pub read_word : Bytes → Read ℕ
 read_word bs = cond (nat_le 8 (length bs)) (got (big_endian bs) 8) (stops (length bs))
 

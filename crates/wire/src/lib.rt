@@ -5,36 +5,26 @@ ghost use Rattle.wire.specs.Reading.{ReadsBack, OneSpelling, StopsWhereItMust, B
 ghost use Rattle.wire.specs.Answered.{AnswersReadBack};
 
 // The bytes of a call are read as that call.
-pub fn reads_back() -> u8
+pub fn reads_back()
     ensures { ReadsBack }
-{
-    0
-}
+{}
 
 // Bytes that are read as a call are the only bytes of that call.
-pub fn one_spelling() -> u8
+pub fn one_spelling()
     ensures { OneSpelling }
-{
-    0
-}
+{}
 
 // The place of what is no call is the first at which no call goes on.
-pub fn stops_where_it_must() -> u8
+pub fn stops_where_it_must()
     ensures { StopsWhereItMust }
-{
-    0
-}
+{}
 
 // The order of two values is that of their bytes.
-pub fn byte_order() -> u8
+pub fn byte_order()
     ensures { ByteOrder }
-{
-    0
-}
+{}
 
 // The bytes of an answer are read as that answer.
-pub fn answers_read_back() -> u8
+pub fn answers_read_back()
     ensures { AnswersReadBack }
-{
-    0
-}
+{}

@@ -1,15 +1,17 @@
 // What can go wrong in a run, and what is said of it.
+use crate::MOST_CAPACITY;
+use calls_file::CutOff;
 use lines::LineError;
 use std::alloc::AllocError;
 use std::{fmt, io};
 
-#[derive(Drop)]
+#[derive(Debug, Drop)]
 pub enum Fault {
     Usage,
     Arguments(io::Error),
     Capacity(String),
     Unreadable(String, io::Error),
-    CutOff(String, usize),
+    CutOff(String, CutOff),
     Memory,
     NoAnswer,
     Output(io::Error),
@@ -22,10 +24,10 @@ impl fmt::Display for Fault {
             Fault::Arguments(error) => write!(f, "can't read the arguments: {error}"),
             Fault::Capacity(text) => write!(
                 f,
-                "the capacity is a number from 1 to 16777216, and not '{text}'"
+                "the capacity is a number from 1 to {MOST_CAPACITY}, and not '{text}'"
             ),
             Fault::Unreadable(file, error) => write!(f, "can't read {file}: {error}"),
-            Fault::CutOff(file, at) => write!(f, "{file} ends inside the call at byte {at}"),
+            Fault::CutOff(file, cut) => write!(f, "{file} {cut}"),
             Fault::Memory => f.write_str("out of memory"),
             Fault::NoAnswer => f.write_str("the engine's bytes are no answer"),
             Fault::Output(error) => write!(f, "can't write the answers: {error}"),

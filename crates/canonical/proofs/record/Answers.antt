@@ -7,12 +7,8 @@ use Rattle.canonical.proofs.record.Goals as goal
 pub overflow_sub-height : goal.overflow_sub-height
 overflow_sub-height c = omega (arith, (record_is c.args.bytes.now c.args.at c.args.height c.requires.1).0)
 
-pub named-requires : goal.named-requires
-named-requires c = (c.requires.0, got-turn to_attrs 0 _ _ (record_is c.args.bytes.now c.args.at c.args.height c.requires.1).1 c.requires.1)
+pub list-requires : goal.list-requires
+list-requires c = let w = record_is c.args.bytes.now c.args.at c.args.height c.requires.1 in (c.requires.0, got-turn to_attrs 0 _ _ w.1 c.requires.1)
 
-pub returns : goal.returns
-returns c =
-    record {
-      is = c.named.ensures.is ∙ judged-turn canonical_record to_attrs c.args.at 0 c.args.at _ _ (omega arith) (record_is c.args.bytes.now c.args.at c.args.height c.requires.1).1;
-      within = c.named.ensures.within;
-    }
+pub returns-clause-is : goal.returns-clause-is
+returns-clause-is c = c.list.ensures.is ∙ judged-turn canonical_record to_attrs c.args.at 0 c.args.at _ _ (omega arith) (record_is c.args.bytes.now c.args.at c.args.height c.requires.1).1

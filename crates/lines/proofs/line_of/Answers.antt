@@ -1,10 +1,9 @@
--- The first byte says which kind of answer it is.
-use Rattle.std.proofs.Common.{string_bytes}
-use Rattle.lines.proofs.Sorts.{first-refused, first-authorized}
+-- The first byte says which answer it is.
+use Rattle.std.proofs.Common.{◌≡◌, ◌∷◌, string_bytes, rules}
+use Rattle.lines.proofs.Lines.{first-refused}
 use Rattle.lines.proofs.line_of.Goals as goal
 
-pub returns-in-0 : goal.returns-in-0
-returns-in-0 c = first-refused string_bytes c.args.answer.now c.refused.result c.in-0.is c.refused.ensures
-
-pub returns-in-4 : goal.returns-in-4
-returns-in-4 c = first-authorized string_bytes c.args.answer.now c.decided.result c.in-4.is c.decided.ensures
+pub returns-in-Refused : goal.returns-in-Refused
+returns-in-Refused c =
+    let zero : c.args.answer.now ≡ 0 ∷ c.in_ok-kind.rest.now = search rules in
+    first-refused string_bytes c.args.answer.now c.in_ok-kind.rest.now c.refused.result zero c.refused.ensures

@@ -1,27 +1,30 @@
-use Rattle.std.proofs.Common.{get_or, arith}
+use Rattle.std.proofs.Common.{◌≡◌, true, false, sym, ◌∙◌, ⊎_elim}
 use Rattle.reader.proofs.Whole.{nothing, no_call}
-use Rattle.measure.proofs.Whole.{no_row, row-whole, row-behind, row-err, row-policy, row-entity, some-form}
+use Rattle.measure.proofs.Whole.{Removes, no_row, row-bare, row-whole, row-behind, row-err}
 use Rattle.measure.proofs.row_length.Goals as goal
+use Rattle.measure.proofs.row_length.Goals.{in-RemovePolicy, in_default-matches}
 
-pub returns-then-bytes-eq0 : goal.returns-then-bytes-eq0
-returns-then-bytes-eq0 c = no_row _ 0 (nothing c.args.bytes.now c.if-bytes-eq0.true)
+-- no test comes out both ways
+both : {X : Type 0} → true ≡ false → X
+both e = cc
 
-pub returns-then-tag-table : goal.returns-then-tag-table
-returns-then-tag-table c = no_row _ 0 (no_call c.args.bytes.now (omega arith) c.calls-table.result.now c.calls-table.ensures c.if-tag-table.true)
+pub returns-in_default : goal.returns-in_default
+returns-in_default c = no_row _ 0 (nothing c.args.bytes.now c.in_default.ensures.value)
 
-pub returns-then-tag-eq-REMOVE_POLICY : goal.returns-then-tag-eq-REMOVE_POLICY
-returns-then-tag-eq-REMOVE_POLICY c = row-policy c.args.bytes.now (omega arith) c.calls-table.result.now c.calls-table.ensures (some-form c.calls-table.result.now (get_or c.args.bytes.now 0 0) c.if-tag-table.false) c.if-tag-table.false c.if-tag-eq-REMOVE_POLICY.true
+pub returns-in_default-try_from : goal.returns-in_default-try_from
+returns-in_default-try_from c = no_row _ 0 (no_call c.args.bytes.now _ c.in-Some.ensures.value c.in_default-try_from.ensures)
 
-pub returns-then-tag-eq-REMOVE_ENTITY : goal.returns-then-tag-eq-REMOVE_ENTITY
-returns-then-tag-eq-REMOVE_ENTITY c = row-entity c.args.bytes.now (omega arith) c.calls-table.result.now c.calls-table.ensures (some-form c.calls-table.result.now (get_or c.args.bytes.now 0 0) c.if-tag-table.false) c.if-tag-table.false c.if-tag-eq-REMOVE_ENTITY.true
-
-pub returns-in-Err : goal.returns-in-Err
-returns-in-Err c = row-err c.args.bytes.now (omega arith) c.calls-table.result.now c.calls-table.ensures _ c.if-tag-table.false c.in-Err.field-0 c.in-Err.ensures.reads
+pub returns-then-matches : goal.returns-then-matches
+returns-then-matches c =
+    let removes : Removes c.in-Ok.call = elim c.match-matches.branch [ in-RemovePolicy w ↦ w.in-RemovePolicy.is | in_default-matches w ↦ both (sym c.if-matches.true ∙ w.matches-is) ] in
+    row-bare c.args.bytes.now _ c.in-Some.ensures.value c.in-Ok.call c.in-Ok.ensures removes
 
 pub returns-then-row-bytes : goal.returns-then-row-bytes
-returns-then-row-bytes c =
-    row-whole c.args.bytes.now (omega arith) c.calls-table.result.now c.calls-table.ensures _ c.if-tag-table.false c.in-Ok.row c.in-Ok.ensures.reads c.if-row-bytes.true c.if-tag-eq-REMOVE_POLICY.false c.if-tag-eq-REMOVE_ENTITY.false
+returns-then-row-bytes c = row-whole c.args.bytes.now _ c.in-Some.ensures.value c.in-Ok.call c.in-Ok.ensures _ c.fields.ensures c.in-Ok-fields.row c.in-Ok-fields.ensures.reads c.if-row-bytes.true
+    (λ r. elim c.match-matches.branch [ in-RemovePolicy w ↦ both (sym w.matches-is ∙ c.if-matches.false) | in_default-matches w ↦ ⊎_elim w.in_default-matches.not-RemovePolicy w.in_default-matches.not-RemoveEntity r ])
 
 pub returns-else-row-bytes : goal.returns-else-row-bytes
-returns-else-row-bytes c =
-    row-behind c.args.bytes.now (omega arith) c.calls-table.result.now c.calls-table.ensures _ c.if-tag-table.false c.in-Ok.row c.in-Ok.ensures.reads c.if-row-bytes.false
+returns-else-row-bytes c = row-behind c.args.bytes.now _ c.in-Some.ensures.value c.in-Ok.call c.in-Ok.ensures _ c.fields.ensures c.in-Ok-fields.row c.in-Ok-fields.ensures.reads c.if-row-bytes.false
+
+pub returns-in_default-fields : goal.returns-in_default-fields
+returns-in_default-fields c = row-err c.args.bytes.now _ c.in-Some.ensures.value c.in-Ok.call c.in-Ok.ensures _ c.fields.ensures _ c.in_default-fields.ensures.reads

@@ -12,13 +12,10 @@ rises-types_rise-requires c = (schema-is c.args.bytes.now c.requires).0.0
 pub rises-actions_rise-requires : goal.rises-actions_rise-requires
 rises-actions_rise-requires c = (stands_at c.args.bytes.now c.requires _ c.list_end-actions.ensures.0).1
 
-pub entries_fit-types_fit-requires : goal.entries_fit-types_fit-requires
-entries_fit-types_fit-requires c = stands_at c.args.bytes.now c.requires _ c.list_end-actions.ensures.0
-
-pub actions_fit-requires : goal.actions_fit-requires
-actions_fit-requires c = stands_at c.args.bytes.now c.requires _ c.list_end-actions.ensures.0
-
 pub returns : goal.returns
 returns c =
     and-two _ _ _ _ (and-two _ _ _ _ c.rises-types_rise.ensures c.rises-actions_rise.ensures) (and-two _ _ _ _ c.entries_fit-types_fit.ensures c.actions_fit.ensures)
     ∙ well-at c.args.bytes.now c.requires _ c.list_end-actions.ensures.0
+
+pub invariant_of-schema : goal.invariant_of-schema
+invariant_of-schema c = record { stands = stands_at c.args.bytes.now c.requires _ c.list_end-actions.ensures.0 }

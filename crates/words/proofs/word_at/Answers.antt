@@ -1,13 +1,14 @@
--- At each exit the definition's tests come out as the code's did, and where a number's bytes stand the definition gives the number.
-use Rattle.std.proofs.Common.{rules}
+-- Where a number's bytes stand the definition gives the number.
+use Rattle.std.proofs.Common.{rules, arith}
+use Rattle.std.proofs.lemmas.Grind.{common_steps}
 use Rattle.words.proofs.Round.{word_read}
 use Rattle.words.proofs.word_at.Goals as goal
 
-pub returns-then-at-bytes : goal.returns-then-at-bytes
-returns-then-at-bytes c = record { is = search rules; reads = word_read c.args.at c.args.bytes.now _ (search rules) }
+pub returns-in_err-get-clause-reads : goal.returns-in_err-get-clause-reads
+returns-in_err-get-clause-reads c = word_read c.args.at c.args.bytes.now _ (search rules)
 
-pub returns-then-bytes-at-lt8 : goal.returns-then-bytes-at-lt8
-returns-then-bytes-at-lt8 c = record { is = search rules; reads = word_read c.args.at c.args.bytes.now _ (search rules) }
+pub returns-in_err-chunk-clause-reads : goal.returns-in_err-chunk-clause-reads
+returns-in_err-chunk-clause-reads c = word_read c.args.at c.args.bytes.now _ (search rules)
 
-pub returns : goal.returns
-returns c = record { is = search rules; reads = word_read c.args.at c.args.bytes.now _ (search rules) }
+pub returns-clause-reads : goal.returns-clause-reads
+returns-clause-reads c = word_read c.args.at c.args.bytes.now _ (grind (arith, common_steps))

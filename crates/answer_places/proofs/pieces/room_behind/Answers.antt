@@ -1,27 +1,34 @@
 -- Each id takes nine bytes and its own.
-use Rattle.std.proofs.Common.{◌++◌, length, ap, arith}
-use Rattle.answer_places.proofs.Lists.{from_first, from_last, next-long}
+use Rattle.std.proofs.Common.{length, ap, arith, rules}
+use Rattle.values.specs.Memory.{numbers}
+use Rattle.answer_places.proofs.Lists.{id-there, from_first, from_last, next-long}
 use Rattle.answer_places.proofs.pieces.room_behind.Goals as goal
-use Rattle.answer_places.proofs.pieces.room_behind.Goals.{then-left-lt9-via-then-left-lt9, then-left-lt9-via-else-left-lt9+then-left-long}
 
-pub loop-k-init : goal.loop-k-init
-loop-k-init c = omega (arith, ap length (from_first (c.args.store.now ++ c.args.work.now) c.args.ids))
+pub loop-place-init : goal.loop-place-init
+loop-place-init c = let first = ap length (from_first (numbers c.args.memory.now) c.args.ids) in search rules
 
-pub returns-then-left-lt9 : goal.returns-then-left-lt9
-returns-then-left-lt9 c =
-    let next = next-long (c.args.store.now ++ c.args.work.now) c.args.ids c.loop-k.k c.word-id.result c.word-id.ensures c.requires.there c.loop-k-test.true in
-    elim c.then-left-lt9.branch [
-      | then-left-lt9-via-then-left-lt9 w ↦ omega (arith, c.loop-k.invariant)
-      | then-left-lt9-via-else-left-lt9+then-left-long w ↦ omega (arith, c.loop-k.invariant, c.word-long.ensures)
-    ]
+pub returns-in_err-checked_sub : goal.returns-in_err-checked_sub
+returns-in_err-checked_sub c =
+    let m = numbers c.args.memory.now in
+    let next = next-long m c.args.ids c.loop-place.place c.requires (omega arith) c.loop-place-test.true in
+    search rules
 
-pub loop-k-preserved : goal.loop-k-preserved
-loop-k-preserved c =
-    let next = next-long (c.args.store.now ++ c.args.work.now) c.args.ids c.loop-k.k c.word-id.result c.word-id.ensures c.requires.there c.loop-k-test.true in
-    omega (arith, c.loop-k.invariant, c.word-long.ensures)
+pub held-requires-clause-there : goal.held-requires-clause-there
+held-requires-clause-there c = id-there (numbers c.args.memory.now) c.args.ids c.loop-place.place c.requires (omega arith) c.loop-place-test.true
 
-pub returns-then-left-lt1 : goal.returns-then-left-lt1
-returns-then-left-lt1 c = omega (arith, c.loop-k.invariant, ap length (from_last (c.args.store.now ++ c.args.work.now) c.args.ids c.loop-k.k c.loop-k-test.false))
+pub returns-in_err-left : goal.returns-in_err-left
+returns-in_err-left c =
+    let m = numbers c.args.memory.now in
+    let next = next-long m c.args.ids c.loop-place.place c.requires (omega arith) c.loop-place-test.true in
+    let size = ap length c.held.ensures.is in
+    search rules
+
+pub loop-place-preserved : goal.loop-place-preserved
+loop-place-preserved c =
+    let m = numbers c.args.memory.now in
+    let next = next-long m c.args.ids c.loop-place.place c.requires (omega arith) c.loop-place-test.true in
+    let size = ap length c.held.ensures.is in
+    search rules
 
 pub returns : goal.returns
-returns c = omega (arith, c.loop-k.invariant, ap length (from_last (c.args.store.now ++ c.args.work.now) c.args.ids c.loop-k.k c.loop-k-test.false))
+returns c = let last = ap length (from_last (numbers c.args.memory.now) c.args.ids c.loop-place.place (omega arith)) in search rules

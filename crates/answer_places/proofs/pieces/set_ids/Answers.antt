@@ -1,59 +1,42 @@
 -- One id behind another, and then the end.
-use Rattle.std.proofs.Common.{◌≡◌, ℕ, ◌+◌, ◌≤◌, List, [], ◌∷◌, ◌++◌, length, set, sym, refl, ap, ◌∙◌, arith, length-set}
+use Rattle.std.proofs.Common.{ℕ, ◌+◌, List, ◌∷◌, length, get_or, sym, ap, ◌∙◌, subst, arith}
 use Rattle.spec.specs.Bytes.{encode_text}
+use Rattle.values.specs.Memory.{numbers}
 use Rattle.values.specs.Held.{text_at}
-use Rattle.answer_places.specs.Put.{written, Wrote}
-use Rattle.answer_places.proofs.Writes.{wrote_one, wrote-more, wrote-left, written_one}
-use Rattle.answer_places.proofs.Lists.{id-long, bytes_from, from_first, from_last, id-there, from_next, next-long}
+use Rattle.answers.specs.Put.{written, Wrote, Put}
+use Rattle.answers.proofs.Writes.{placed, wrote-left, text-long}
+use Rattle.answer_places.proofs.Lists.{bytes_from, id-there, from_first, from_next, next-long}
 use Rattle.answer_places.proofs.pieces.set_ids.Goals as goal
 
-pub loop-k-init : goal.loop-k-init
-loop-k-init c =
-    let all = from_first (c.args.store.now ++ c.args.work.now) c.args.ids in
-    (ap (λ bs. c.args.start + length bs) all, ap (λ bs. written c.args.out.now c.args.start bs) all)
+pub loop-place-init : goal.loop-place-init
+loop-place-init c =
+    let first = from_first (numbers c.args.memory.now) c.args.ids in
+    (ap (λ bs. c.args.start + length bs) first, ap (λ bs. written c.args.out.now c.args.start bs) first)
 
-pub bounds-out-at : goal.bounds-out-at
-bounds-out-at c =
-    let next = next-long (c.args.store.now ++ c.args.work.now) c.args.ids c.loop-k.k c.word-id.result c.word-id.ensures c.requires.there c.loop-k-test.true in
-    omega (arith, c.loop-k.invariant.0)
+pub held-requires-clause-there : goal.held-requires-clause-there
+held-requires-clause-there c = id-there (numbers c.args.memory.now) c.args.ids c.loop-place.place c.requires.there (omega arith) c.loop-place-test.true
 
-pub set_text-at-requires : goal.set_text-at-requires
-set_text-at-requires c =
-    let m : List ℕ = c.args.store.now ++ c.args.work.now in
-    let next = next-long m c.args.ids c.loop-k.k c.word-id.result c.word-id.ensures c.requires.there c.loop-k-test.true in
-    record {
-      small = c.requires.small;
-      there = id-there m c.args.ids c.loop-k.k c.word-id.result c.word-id.ensures c.requires.there c.loop-k-test.true;
-      room = simp length-set (omega (arith, c.loop-k.invariant.0));
-    }
+pub unwrap-at-requires : goal.unwrap-at-requires
+unwrap-at-requires c =
+    let m : List ℕ = numbers c.args.memory.now in
+    let next = next-long m c.args.ids c.loop-place.place c.requires.there (omega arith) c.loop-place-test.true in
+    let text = text-long (text_at m (get_or m c.loop-place.place 0)) in
+    let put = subst (λ t. Put c.loop-place.out c.loop-place.at (1 ∷ encode_text t) c.put_item.result c.put_item.new.out) c.held.ensures.is c.put_item.ensures in
+    placed c.loop-place.out c.loop-place.at (1 ∷ encode_text (text_at m (get_or m c.loop-place.place 0))) c.put_item.result c.put_item.new.out put (omega (arith, c.loop-place.invariant.0))
 
-pub loop-k-preserved : goal.loop-k-preserved
-loop-k-preserved c =
-    let m : List ℕ = c.args.store.now ++ c.args.work.now in
+pub loop-place-preserved : goal.loop-place-preserved
+loop-place-preserved c =
+    let m : List ℕ = numbers c.args.memory.now in
     let ids = c.args.ids in
-    let k = c.loop-k.k in
-    let id = c.word-id.result in
-    let out = c.loop-k.out in
-    let at = c.loop-k.at in
-    let new = c.set_text-at.new.out in
-    let end = c.set_text-at.result in
-    let text = encode_text (text_at m id) in
-    let next = from_next m ids k id c.word-id.ensures c.requires.there c.loop-k-test.true in
-    let size = next-long m ids k id c.word-id.ensures c.requires.there c.loop-k-test.true in
-    let room : at + 1 ≤ length out = omega (arith, c.loop-k.invariant.0) in
-    let one : Wrote out at (1 ∷ text) end new = wrote-more out (set out at 1) new at (1 ∷ []) text (at + 1) end (wrote_one out at 1 1 refl room) c.set_text-at.ensures in
-    let own = id-long m id (id-there m ids k id c.word-id.ensures c.requires.there c.loop-k-test.true).within in
-    (omega (arith, c.loop-k.invariant.0, one.ends), wrote-left out new at (1 ∷ text) (bytes_from m ids (k + 1)) end one ∙ ap (λ bs. written out at bs) (sym next) ∙ c.loop-k.invariant.1)
-
-pub returns : goal.returns
-returns c =
-    let m : List ℕ = c.args.store.now ++ c.args.work.now in
-    let out = c.loop-k.out in
-    let at = c.loop-k.at in
-    let last = from_last m c.args.ids c.loop-k.k c.loop-k-test.false in
-    let size = ap length last in
-    record {
-      ends = omega (arith, c.loop-k.invariant.0);
-      fits = omega (arith, c.loop-k.invariant.0);
-      holds = written_one out at 0 (omega (arith, c.loop-k.invariant.0)) ∙ ap (λ bs. written out at bs) (sym last) ∙ c.loop-k.invariant.1;
-    }
+    let place = c.loop-place.place in
+    let out = c.loop-place.out in
+    let at = c.loop-place.at in
+    let new = c.put_item.new.out in
+    let end = c.unwrap-at.result in
+    let text = encode_text (text_at m (get_or m place 0)) in
+    let put = subst (λ t. Put out at (1 ∷ encode_text t) c.put_item.result new) c.held.ensures.is c.put_item.ensures in
+    let next = from_next m ids place c.requires.there (omega arith) c.loop-place-test.true in
+    let size = next-long m ids place c.requires.there (omega arith) c.loop-place-test.true in
+    let one : Wrote out at (1 ∷ text) end new = subst (λ r. Put out at (1 ∷ text) r new) c.unwrap-at.ensures put in
+    let own = text-long (text_at m (get_or m place 0)) in
+    (omega (arith, c.loop-place.invariant.0, one.ends), wrote-left out new at (1 ∷ text) (bytes_from m ids (place + 1)) end one ∙ ap (λ bs. written out at bs) (sym next) ∙ c.loop-place.invariant.1)

@@ -1,5 +1,5 @@
 -- Both ids lie in the memory.
-use Rattle.std.proofs.Common.{◌≡◌, ℕ, ◌+◌, ◌≤◌, List, length, get_or, refl, subst, arith, lit<, lit≤}
+use Rattle.std.proofs.Common.{◌≡◌, ℕ, ◌+◌, ◌≤◌, List, length, get_or, refl, subst, arith, lit≤}
 use Rattle.answer_places.specs.Code.{IdIn, IdsIn}
 use Rattle.answer_places.proofs.tests.write_authorized.Goals as goal
 
@@ -9,9 +9,6 @@ one {m} {p} h i = record { fits = h; each = λ k l. let e : 0 ≡ k = omega arit
 pub write-requires : goal.write-requires
 write-requires c =
     record {
-      small = lit< tt;
-      there = record {
-        reasons = one (lit≤ tt) (record { within = lit≤ tt; bytes = refl });
-        errors = one (lit≤ tt) (record { within = lit≤ tt; bytes = refl });
-      };
+      reasons = one (lit≤ tt) (record { within = lit≤ tt; bytes = refl });
+      errors = one (lit≤ tt) (record { within = lit≤ tt; bytes = refl });
     }

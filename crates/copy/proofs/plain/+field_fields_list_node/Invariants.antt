@@ -10,30 +10,30 @@ use Rattle.copy.proofs.Pieces.{Left, leaves-off}
 use Rattle.copy.proofs.plain.+field_fields_list_node.Given as goal
 
 abbrev pub decreases-field : goal.decreases-field
-decreases-field l = 3 * (l.height + (length l.bytes.now - l.at)) + 1
+decreases-field l = 3 * (l.height + (length l.bytes.now - l.from.end)) + 1
 
 abbrev pub decreases-fields : goal.decreases-fields
-decreases-fields l = 3 * (l.height + (length l.bytes.now - l.at)) + 2
+decreases-fields l = 3 * (l.height + (length l.bytes.now - l.from.end)) + 2
 
 abbrev pub decreases-list : goal.decreases-list
-decreases-list l = 3 * (l.height + (length l.bytes.now - l.at))
+decreases-list l = 3 * (l.height + (length l.bytes.now - l.from.end))
 
 abbrev pub decreases-node : goal.decreases-node
-decreases-node l = 3 * (l.height + (length l.bytes.now - l.at))
+decreases-node l = 3 * (l.height + (length l.bytes.now - l.from.end))
 
 abbrev pub invariant-fields-loop-f : goal.invariant-fields-loop-f
 invariant-fields-loop-f l =
-    (l.at ≤ l.end) × (l.end ≤ length l.bytes) × (l.to ≤ l.next) × (plain_fields (fields_of (drop l.f-index l.shape)) ≡ true)
-    × Left (read_node l.height) l.bytes l.end l.next (length l.rows) (drop l.f-index l.shape)
-    × (leaves-off (read_node l.height) l.bytes l.end l.next l.rows (drop l.f-index l.shape) ≡ leaves-off (read_node l.height) l.bytes l.at l.to l.initial.rows l.shape)
+    (l.initial.copied.end ≤ l.copied.end) × (l.copied.end ≤ length l.bytes) × (l.initial.copied.to ≤ l.copied.to) × (plain_fields (fields_of (drop l.f-index l.shape)) ≡ true)
+    × Left (read_node l.height) l.bytes l.copied.end l.copied.to (length l.rows) (drop l.f-index l.shape)
+    × (leaves-off (read_node l.height) l.bytes l.copied.end l.copied.to l.rows (drop l.f-index l.shape) ≡ leaves-off (read_node l.height) l.bytes l.initial.copied.end l.initial.copied.to l.initial.rows l.shape)
 
-abbrev pub invariant-list-loop-end : goal.invariant-list-loop-end
-invariant-list-loop-end l =
-    (p : Part (read_fields (read_node l.height) (fields_of l.shape)) l.bytes l.at l.end)
-    × (l.at ≤ l.end) × (l.end ≤ length l.bytes) × (l.count ≤ l.end) × (l.count ≡ length p.before)
-    × (l.next ≡ l.to + 1 + length (rows_of (row_fields (fields_of l.shape)) p.before))
-    × (l.to + 1 + length (rows_of (row_fields (fields_of l.shape)) (p.before ++ p.behind)) ≤ length l.rows)
-    × (l.rows ≡ written l.initial.rows (l.to + 1) (rows_of (row_fields (fields_of l.shape)) p.before))
+abbrev pub invariant-list-loop-copied : goal.invariant-list-loop-copied
+invariant-list-loop-copied l =
+    (p : Part (read_fields (read_node l.height) (fields_of l.shape)) l.bytes l.from.end l.copied.end)
+    × (l.from.end ≤ l.copied.end) × (l.copied.end ≤ length l.bytes) × (l.count ≤ l.copied.end) × (l.count ≡ length p.before)
+    × (l.copied.to ≡ l.from.to + 1 + length (rows_of (row_fields (fields_of l.shape)) p.before))
+    × (l.from.to + 1 + length (rows_of (row_fields (fields_of l.shape)) (p.before ++ p.behind)) ≤ length l.rows)
+    × (l.rows ≡ written l.initial.rows (l.from.to + 1) (rows_of (row_fields (fields_of l.shape)) p.before))
 
-abbrev pub decreases-list-loop-end : goal.decreases-list-loop-end
-decreases-list-loop-end l = length l.initial.bytes - l.end
+abbrev pub decreases-list-loop-copied : goal.decreases-list-loop-copied
+decreases-list-loop-copied l = length l.initial.bytes - l.copied.end

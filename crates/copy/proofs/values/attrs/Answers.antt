@@ -7,20 +7,20 @@ use Rattle.copy.proofs.ValueForms.{attrs-there}
 use Rattle.copy.proofs.values.attrs.Goals as goal
 
 pub overflow_sub-height : goal.overflow_sub-height
-overflow_sub-height c = (attrs-there c.args.bytes.now c.args.at c.args.height c.requires.what c.requires.long c.requires.is).high
+overflow_sub-height c = (attrs-there c.args.bytes.now c.args.from.end c.args.height c.requires.what c.requires.long c.requires.is).high
 
-pub record-requires : goal.record-requires
-record-requires c =
-    let a = (attrs-there c.args.bytes.now c.args.at c.args.height c.requires.what c.requires.long c.requires.is) in
+pub collection-requires : goal.collection-requires
+collection-requires c =
+    let a = (attrs-there c.args.bytes.now c.args.from.end c.args.height c.requires.what c.requires.long c.requires.is) in
     record { inside = omega (arith, a.inside); room = record { what = a.contents; long = c.requires.long; is = a.reads; fits = omega (arith, c.requires.fits, ap length a.is) } }
 
 pub returns : goal.returns
 returns c =
-    let a = (attrs-there c.args.bytes.now c.args.at c.args.height c.requires.what c.requires.long c.requires.is) in
+    let a = (attrs-there c.args.bytes.now c.args.from.end c.args.height c.requires.what c.requires.long c.requires.is) in
     let xs = c.args.rows.now in
-    let to = c.args.to in
-    let w = wrote record_row xs c.record.new.rows to c.args.at c.record.result _ a.contents c.requires.long c.record.ensures.reads a.reads in
+    let to = c.args.from.to in
+    let w = wrote record_row xs c.collection.new.rows to c.args.from.end c.collection.result _ a.contents c.requires.long c.collection.ensures.reads a.reads in
     record {
-      reads = is-after row_attrs xs _ to c.args.at c.record.result _ c.requires.what c.requires.long c.requires.is (record { rows = w.rows ∙ ap (λ q. written xs to q) (sym a.is); ends = w.ends; goes = w.goes ∙ ap (λ q. to + length q) (sym a.is) });
-      inside = c.record.ensures.inside;
+      reads = is-after row_attrs xs _ to c.args.from.end c.collection.result _ c.requires.what c.requires.long c.requires.is (record { rows = w.rows ∙ ap (λ q. written xs to q) (sym a.is); ends = w.ends; goes = w.goes ∙ ap (λ q. to + length q) (sym a.is) });
+      inside = c.collection.ensures.inside;
     }

@@ -1,39 +1,37 @@
--- At each exit the list that is ahead is looked at: its mark is a 0 or a 1, and behind a 1 stands a text.
-use Rattle.std.proofs.Common.{string_bytes, arith}
-use Rattle.lines.proofs.Lists.{ended, stepped, no_text, no-mark, list-mark, list_inside}
+-- Behind a 1 stands an id, and behind a 0 is the list's end.
+use Rattle.std.proofs.Common.{◌≡◌, ◌∷◌, ◌++◌, length, string_bytes, sym, ◌∙◌, rules}
+use Rattle.spec.specs.Bytes.{encode_text, encode_list}
+use Rattle.lines.proofs.Lists.{ended, id-next, stepped, begins, no_list}
 use Rattle.lines.proofs.ids.ids.Goals as goal
 
-pub returns-then-answer-at-eq0 : goal.returns-then-answer-at-eq0
-returns-then-answer-at-eq0 c = record {
-  within = omega arith;
-  lists = λ all rest e. ended c.args.answer.now c.loop-at.at (string_bytes c.loop-at.line) (string_bytes c.args.line.now) all rest c.if-answer-at-eq0.true (c.loop-at.invariant all rest e);
-}
+pub returns-in-0 : goal.returns-in-0
+returns-in-0 c all rest e =
+    let a = c.loop-mark.invariant all rest e in
+    let zero : c.loop-mark.left.now ≡ 0 ∷ c.in-Some.rest.now = search rules in
+    ended c.in-Some.rest.now (string_bytes c.loop-mark.line) (string_bytes c.args.line.now) all rest (a.0, sym zero ∙ a.1, a.2)
 
-pub returns-then-answer-at-ne1 : goal.returns-then-answer-at-ne1
-returns-then-answer-at-ne1 c = record {
-  within = tt;
-  lists = λ all rest e.
-      let a = c.loop-at.invariant all rest e in
-      absurd (no-mark _ a.0 (list-mark c.args.answer.now c.loop-at.at a.0 rest a.1) c.if-answer-at-eq0.false c.if-answer-at-ne1.true);
-}
+pub returns-in_err-id-in-1 : goal.returns-in_err-id-in-1
+returns-in_err-id-in-1 c all rest e =
+    let a = c.loop-mark.invariant all rest e in
+    let one : c.loop-mark.left.now ≡ 1 ∷ c.in-Some.rest.now = search rules in
+    let i = id-next a.0 c.in-Some.rest.now rest (sym one ∙ a.1) in
+    absurd (c.in_err-id-in-1.ensures.reads i.0 (encode_list encode_text i.1 ++ rest) i.3)
 
-pub returns-in_default : goal.returns-in_default
-returns-in_default c = record {
-  within = tt;
-  lists = λ all rest e.
-      let a = c.loop-at.invariant all rest e in
-      absurd (no_text c.args.answer.now c.loop-at.at a.0 rest (omega arith) c.if-answer-at-ne1.false a.1 c.in_default.ensures.value);
-}
+pub loop-mark-preserved : goal.loop-mark-preserved
+loop-mark-preserved c all rest e =
+    let a = c.loop-mark.invariant all rest e in
+    let one : c.loop-mark.left.now ≡ 1 ∷ c.in-Some.rest.now = search rules in
+    stepped c.in-Some.rest.now c.in_ok-id-in-1.rest.now (string_bytes c.loop-mark.line) (string_bytes c.put.new.line) (string_bytes c.quoted.new.line) (string_bytes c.args.line.now) c.in_ok-id-in-1.id.now all rest
+    c.in_ok-id-in-1.ensures.reads c.in_ok-put-in-1.ensures c.in_ok-quoted-in-1.ensures (a.0, sym one ∙ a.1, a.2)
 
-pub loop-at-preserved : goal.loop-at-preserved
-loop-at-preserved c all rest e =
-    stepped c.args.answer.now c.loop-at.at (string_bytes c.loop-at.line) (string_bytes c.put.new.line) (string_bytes c.quoted.new.line) (string_bytes c.args.line.now) c.in-Some.id.now all rest
-    (omega arith) c.if-answer-at-ne1.false c.in-Some.ensures.value c.in_ok-put.ensures c.in_ok-quoted.ensures (c.loop-at.invariant all rest e)
+pub returns-in_default-mark : goal.returns-in_default-mark
+returns-in_default-mark c all rest e =
+    let a = c.loop-mark.invariant all rest e in
+    let first : c.loop-mark.left.now ≡ c.in-Some.mark.now ∷ c.in-Some.rest.now = search rules in
+    absurd (begins a.0 c.in-Some.mark.now c.in-Some.rest.now rest (sym first ∙ a.1) (λ zero. search rules) (λ one. search rules))
 
 pub returns : goal.returns
-returns c = record {
-  within = tt;
-  lists = λ all rest e.
-      let a = c.loop-at.invariant all rest e in
-      absurd (omega (arith, list_inside c.args.answer.now c.loop-at.at a.0 rest a.1));
-}
+returns c all rest e =
+    let a = c.loop-mark.invariant all rest e in
+    let none : length c.loop-mark.left.now ≡ 0 = search rules in
+    absurd (no_list c.loop-mark.left.now a.0 rest none a.1)

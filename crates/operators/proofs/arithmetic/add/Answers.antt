@@ -1,12 +1,7 @@
-use Rattle.std.proofs.Common.{◌≡◌, ◌∙◌, w64, to_z, of_z, rules}
-use Rattle.spec.specs.Basics.{ok}
-use Rattle.spec.specs.Evaluate.{sum, of_int, with_ints}
-use Rattle.values.specs.Held.{raised}
-use Rattle.operators.proofs.Operands.{says-int, with-ints}
+use Rattle.std.proofs.Common.{rules}
+use Rattle.spec.specs.Evaluate.{sum}
+use Rattle.operators.proofs.Integers.{sum-counts}
 use Rattle.operators.proofs.arithmetic.add.Goals as goal
 
-pub returns-in-Ok : goal.returns-in-Ok
-returns-in-Ok c h m a b es s t =
-    let e : sum (raised c.in-Some.i) (raised c.in-Some-as_int.j) ≡ ok (of_int (raised (to_z w64 (of_z w64 c.in-Ok.z)))) = search rules in
-    says-int h m c.args.v (to_z w64 (of_z w64 c.in-Ok.z)) (with_ints a b sum) s.good
-    (with-ints sum a b c.in-Some.i c.in-Some-as_int.j (c.in-Some.ensures h m a s) (c.in-Some-as_int.ensures h m b t) ∙ e)
+pub returns : goal.returns
+returns c h m a b es s t = c.arithmetic.ensures sum (λ i j z fi fj p. search (rules, sum-counts)) h m a b s t

@@ -1,15 +1,5 @@
-use Rattle.std.proofs.Common.{◌≡◌, ℕ, ltb, ap, ◌∙◌, w64, to_z, of_z, rules}
-use lib.Signed.{lt_z}
-use Rattle.spec.specs.Basics.{Except, ok}
-use Rattle.spec.specs.Values.{Value}
-use Rattle.spec.specs.Evaluate.{Error, of_bool, with_ints}
-use Rattle.values.specs.Held.{raised}
-use Rattle.operators.proofs.Operands.{says-bool, with-ints}
+use Rattle.std.proofs.Common.{ltb, rules}
 use Rattle.operators.proofs.arithmetic.less.Goals as goal
 
 pub returns : goal.returns
-returns c h m a b es s t =
-    let f : ℕ → ℕ → Except Error Value = λ i j. ok (of_bool (ltb i j)) in
-    let e : ltb (raised c.in-Some.i) (raised c.in-Some-as_int.j) ≡ lt_z (to_z w64 (of_z w64 c.in-Some.i)) (to_z w64 (of_z w64 c.in-Some-as_int.j)) = search rules in
-    says-bool h m c.args.v (lt_z (to_z w64 (of_z w64 c.in-Some.i)) (to_z w64 (of_z w64 c.in-Some-as_int.j))) (with_ints a b f) s.good
-    (with-ints f a b c.in-Some.i c.in-Some-as_int.j (c.in-Some.ensures h m a s) (c.in-Some-as_int.ensures h m b t) ∙ ap (λ x. ok (of_bool x)) e)
+returns c h m a b es s t = c.comparison.ensures ltb (λ i j r fi fj p. search rules) h m a b s t

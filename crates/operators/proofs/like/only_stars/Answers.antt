@@ -1,33 +1,16 @@
-use Rattle.std.proofs.Common.{ℕ, ◌<◌, ◌≤◌, List, ◌++◌, length, get_or, sym, refl, ◌∙◌, arith}
-use Rattle.values.specs.Held.{text_at}
-use Rattle.values.proofs.Parts.{long}
-use Rattle.operators.proofs.Patterns.{byte, stars-on, no-star, stars-end}
+use Rattle.std.proofs.Common.{◌≡◌, ℕ, ◌+◌, ◌-◌, eqb, List, get_or, refl, ap, ◌∙◌, arith, rules}
+use Rattle.std.proofs.lemmas.Iterator.{YieldsList-from_range}
+use Rattle.std.proofs.lemmas.Iterator.Search.{all_from_yields_List}
+use borrow.Author.Tests.{tests}
+use Rattle.values.specs.Memory.{numbers}
+use Rattle.operators.proofs.Patterns.{all-stars}
 use Rattle.operators.proofs.like.only_stars.Goals as goal
-
-pub loop-i-init : goal.loop-i-init
-loop-i-init c = refl
-
-pub loop-i-preserved : goal.loop-i-preserved
-loop-i-preserved c =
-    let m : List ℕ = c.args.store.now ++ c.args.work.now in
-    let ps : List ℕ = text_at m c.args.p in
-    let l : c.loop-i.i < get_or m c.args.p 0 = omega (arith, c.word-n.ensures) in
-    let b = byte m c.args.p c.loop-i.i l in
-    let u : c.loop-i.i < length ps = omega (arith, l, long m c.args.p c.requires.whole) in
-    sym (stars-on ps c.loop-i.i u (omega (arith, b, c.word.ensures))) ∙ c.loop-i.invariant
-
-pub returns-then-word-ne256 : goal.returns-then-word-ne256
-returns-then-word-ne256 c =
-    let m : List ℕ = c.args.store.now ++ c.args.work.now in
-    let ps : List ℕ = text_at m c.args.p in
-    let l : c.loop-i.i < get_or m c.args.p 0 = omega (arith, c.word-n.ensures) in
-    let b = byte m c.args.p c.loop-i.i l in
-    let u : c.loop-i.i < length ps = omega (arith, l, long m c.args.p c.requires.whole) in
-    sym (no-star ps c.loop-i.i u (λ z. omega (arith, z, b, c.word.ensures))) ∙ c.loop-i.invariant
 
 pub returns : goal.returns
 returns c =
-    let m : List ℕ = c.args.store.now ++ c.args.work.now in
-    let ps : List ℕ = text_at m c.args.p in
-    let u : length ps ≤ c.loop-i.i = omega (arith, c.word-n.ensures, c.loop-i.auto.i-end, long m c.args.p c.requires.whole) in
-    sym (stars-end ps c.loop-i.i u) ∙ c.loop-i.invariant
+    let m : List ℕ = numbers c.args.memory.now in
+    let p : ℕ = c.args.p in
+    let i : ℕ = c.args.from in
+    let n : ℕ = get_or m p 0 in
+    let e : c.word-n.result ≡ n = c.word-n.ensures in
+    all_from_yields_List (λ j. eqb (get_or m (p + 1 + j) 0) 256) _ _ _ c.all.ensures.ran (YieldsList-from_range i n (n - i) (ap (λ k. record { start = i; end = k }) e) refl) (λ x b q k. search (rules, tests)) ∙ all-stars m p i (n - i) c.requires.whole (omega (arith, c.requires.within))

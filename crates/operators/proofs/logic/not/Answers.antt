@@ -5,8 +5,8 @@ use Rattle.values.specs.Held.{Stands}
 use Rattle.operators.proofs.Operands.{is-bool, no_bool, says-bool}
 use Rattle.operators.proofs.logic.not.Goals as goal
 
-pub returns-in-Bool : goal.returns-in-Bool
-returns-in-Bool c h m a s =
+pub returns : goal.returns
+returns c h m a s =
     says-bool h m c.args.v (not c.in-Bool.b) (as_bool a >>= (λ b. ok (of_bool (not b)))) s.good
     (ap (λ o. o >>= (λ b. ok (of_bool (not b)))) (is-bool h m c.in-Bool.b a (subst (λ v. Stands h m v a) c.in-Bool.is s)))
 

@@ -5,7 +5,7 @@ use Rattle.wire.specs.Read.{read_elements, read_pattern}
 use Rattle.reader.specs.Found.{found}
 use Rattle.reader.proofs.scan.pattern.Given as goal
 
-abbrev pub invariant-loop-i : goal.invariant-loop-i
-invariant-loop-i l =
-    (l.start + 2 * l.i ≤ length l.bytes)
-    × (found (λ ps. 1 + l.i + length ps) (l.start + 2 * l.i) (read_elements (l.long - l.i) (drop (l.start + 2 * l.i) l.bytes)) ≡ found size_text l.at (read_pattern (drop l.at l.bytes)))
+abbrev pub invariant-loop : goal.invariant-loop
+invariant-loop l =
+    (l.end ≤ length l.bytes) × (l.end ≡ l.at + 8 + 2 * l.counter)
+    × (found (λ ps. 1 + l.counter + length ps) l.end (read_elements (l.long - l.counter) (drop l.end l.bytes)) ≡ found size_text l.at (read_pattern (drop l.at l.bytes)))

@@ -1,21 +1,23 @@
-use Rattle.std.proofs.Common.{arith}
+use Rattle.std.proofs.Common.{sym, ◌∙◌}
 use Rattle.std.proofs.lemmas.Result.{err_from_is_err_and}
-use Rattle.reader.proofs.Whole.{nothing, no_call, call_ok, call-behind, call-err}
+use Rattle.reader.proofs.Whole.{none_first, first_there, no_call, call_ok, call-behind, call-err}
 use Rattle.reader.proofs.scan.scan.Goals as goal
 
-pub returns-then-bytes-eq0 : goal.returns-then-bytes-eq0
-returns-then-bytes-eq0 c = nothing c.args.bytes.now c.if-bytes-eq0.true
+pub returns-in_err-first : goal.returns-in_err-first
+returns-in_err-first c =
+    let p = err_from_is_err_and c.from_residual.result c.from_residual.ensures.1 in
+    rw (p.1, p.2) (none_first c.args.bytes.now c.first.result _ c.first.ensures.value (sym c.ok_or.ensures.value ∙ c.in_err-first.was))
 
-pub returns-then-tag-table : goal.returns-then-tag-table
-returns-then-tag-table c = no_call c.args.bytes.now (omega arith) c.calls-table.result.now c.calls-table.ensures c.if-tag-table.true
+pub returns-in_default : goal.returns-in_default
+returns-in_default c = no_call c.args.bytes.now _ (first_there c.args.bytes.now c.first.result _ c.first.ensures.value (sym c.ok_or.ensures.value ∙ c.in_ok-first.was)) c.in_default.ensures
 
-pub returns-then-f-bytes : goal.returns-then-f-bytes
-returns-then-f-bytes c = call-behind c.args.bytes.now (omega arith) c.calls-table.result.now c.calls-table.ensures _ c.if-tag-table.false c.in_ok-f.f c.in_ok-f.ensures.reads c.if-f-bytes.true
+pub returns-then-found-bytes : goal.returns-then-found-bytes
+returns-then-found-bytes c = call-behind c.args.bytes.now _ (first_there c.args.bytes.now c.first.result _ c.first.ensures.value (sym c.ok_or.ensures.value ∙ c.in_ok-first.was)) c.in-Ok.call c.in-Ok.ensures _ c.fields.ensures c.in_ok-found.found c.in_ok-found.ensures.reads c.if-found-bytes.true
 
 pub returns : goal.returns
-returns c = call_ok c.args.bytes.now (omega arith) c.calls-table.result.now c.calls-table.ensures _ c.if-tag-table.false c.in_ok-f.f c.in_ok-f.ensures.reads c.if-f-bytes.false
+returns c = call_ok c.args.bytes.now _ (first_there c.args.bytes.now c.first.result _ c.first.ensures.value (sym c.ok_or.ensures.value ∙ c.in_ok-first.was)) c.in-Ok.call c.in-Ok.ensures _ c.fields.ensures c.in_ok-found.found c.in_ok-found.ensures.reads c.if-found-bytes.false
 
-pub returns-in_err-f : goal.returns-in_err-f
-returns-in_err-f c =
-    let p = err_from_is_err_and c.from_residual.result c.from_residual.ensures.1 in
-    rw (p.1, p.2) (call-err c.args.bytes.now (omega arith) c.calls-table.result.now c.calls-table.ensures _ c.if-tag-table.false _ c.in_err-f.ensures.reads)
+pub returns-in_err-found : goal.returns-in_err-found
+returns-in_err-found c =
+    let p = err_from_is_err_and c.from_residual-in_err-found.result c.from_residual-in_err-found.ensures.1 in
+    rw (p.1, p.2) (call-err c.args.bytes.now _ (first_there c.args.bytes.now c.first.result _ c.first.ensures.value (sym c.ok_or.ensures.value ∙ c.in_ok-first.was)) c.in-Ok.call c.in-Ok.ensures _ c.fields.ensures _ c.in_err-found.ensures.reads)

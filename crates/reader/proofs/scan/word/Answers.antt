@@ -1,12 +1,7 @@
-use Rattle.std.proofs.Common.{ℕ, ◌≤◌, length, drop, Ok, sym, ap, arith}
-use Rattle.std.proofs.lemmas.List.{length-drop}
-use Rattle.reader.proofs.Along.{word-short-at, word-full}
+use Rattle.std.proofs.Common.{length, ap, ◌∙◌}
+use Rattle.std.specs.Option.{ok_or}
+use Rattle.reader.proofs.Along.{word-taken}
 use Rattle.reader.proofs.scan.word.Goals as goal
 
-pub returns-then-bytes-at-lt8 : goal.returns-then-bytes-at-lt8
-returns-then-bytes-at-lt8 c = record { reads = sym (word-short-at c.args.bytes.now c.args.at c.requires c.if-bytes-at-lt8.true); within = omega arith }
-
-pub returns : goal.returns
-returns c =
-    let s : 8 ≤ length (drop c.args.at c.args.bytes.now) = omega (arith, length-drop c.args.at c.args.bytes.now) in
-    record { reads = rw (word-full (drop c.args.at c.args.bytes.now) s) (ap (λ (n : ℕ). Ok n) c.eight.ensures); within = omega arith }
+pub returns-clause-reads : goal.returns-clause-reads
+returns-clause-reads c = c.ok_or.ensures.value ∙ ap (λ r. ok_or r (length c.args.bytes.now)) c.word_at.ensures.is ∙ word-taken c.args.bytes.now c.args.at c.requires

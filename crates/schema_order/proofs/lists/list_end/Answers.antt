@@ -1,18 +1,17 @@
-use Rattle.std.proofs.Common.{sym, refl, ap, ◌∙◌, arith}
-use Rattle.schema_order.specs.Places.{read_item, end_of}
-use Rattle.schema_order.proofs.Steps
+use Rattle.std.proofs.Common.{◌≡◌, true, drop, rules, ◌∙◌}
+use Rattle.reader.specs.Ends.{ending}
+use Rattle.schema_order.specs.Places.{read_many, list_at}
+use Rattle.schema_order.proofs.Steps.{always-some, never-none, holds-true}
 use Rattle.schema_order.proofs.lists.list_end.Goals as goal
 
-pub loop-end-init : goal.loop-end-init
-loop-end-init c = (Steps.inside (read_item c.args.listed) c.args.bytes.now c.args.at c.requires, c.requires, omega arith, refl)
-
-pub item_end-end-requires : goal.item_end-end-requires
-item_end-end-requires c = (omega arith, Steps.first-got (read_item c.args.listed) c.args.bytes.now c.loop-end.end c.loop-end.invariant.1 c.loop-end-test.true)
-
-pub loop-end-preserved : goal.loop-end-preserved
-loop-end-preserved c =
-    let s = Steps.step (read_item c.args.listed) c.args.bytes.now c.loop-end.end c.loop-end.invariant.1 c.loop-end-test.true c.item_end-end.result c.item_end-end.ensures in
-    (s.more, s.rest, omega (arith, c.item_end-end.ensures), sym s.ends ∙ c.loop-end.invariant.3)
+pub unreachable-requires : goal.unreachable-requires
+unreachable-requires c =
+    never-none (list_at c.args.listed c.args.bytes.now c.args.at) (ending c.args.at (read_many c.args.listed (drop c.args.at c.args.bytes.now)))
+    (c.in_default.ensures.is (λ x xs. true) (λ item next b h p. let t : b ≡ true = search rules in t ∙ holds-true _))
 
 pub returns : goal.returns
-returns c = (ap (end_of c.loop-end.end) (sym (Steps.none (read_item c.args.listed) c.args.bytes.now c.loop-end.end c.loop-end.invariant.1 c.loop-end-test.false)) ∙ c.loop-end.invariant.3, omega arith, omega arith)
+returns c =
+    let e =
+    always-some (list_at c.args.listed c.args.bytes.now c.args.at) (ending c.args.at (read_many c.args.listed (drop c.args.at c.args.bytes.now))) c.in-Some.end
+    (c.in-Some.ensures.is (λ x xs. true) (λ item next b h p. let t : b ≡ true = search rules in t ∙ holds-true _)) in
+    (e, c.in-Some.ensures.within.0, c.in-Some.ensures.within.1)

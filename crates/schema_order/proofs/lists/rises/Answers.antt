@@ -1,33 +1,13 @@
-use Rattle.std.proofs.Common.{refl, ◌∙◌, arith}
-use Rattle.schema_order.specs.Places.{read_item, key}
-use Rattle.schema_order.proofs.Steps
+use Rattle.std.proofs.Common.{◌≡◌, rules, ap, ◌∙◌}
+use Rattle.std.specs.Option.{is_some}
+use Rattle.schema_order.specs.Places.{before, key, key_at, list_at}
+use Rattle.schema_order.proofs.Steps.{each-rises, before-holds, walked}
 use Rattle.schema_order.proofs.lists.rises.Goals as goal
 
-pub loop-end-init : goal.loop-end-init
-loop-end-init c = (Steps.inside (read_item c.args.listed) c.args.bytes.now c.args.at c.requires, c.requires, refl)
-
-pub item_end-next-requires : goal.item_end-next-requires
-item_end-next-requires c = (omega arith, Steps.first-got (read_item c.args.listed) c.args.bytes.now c.loop-end.end c.loop-end.invariant.1 c.loop-end-test.true)
-
-pub follows-requires : goal.follows-requires
-follows-requires c = (
-  Steps.first-got (read_item c.args.listed) c.args.bytes.now c.loop-end.end c.loop-end.invariant.1 c.loop-end-test.true,
-  (Steps.step (read_item c.args.listed) c.args.bytes.now c.loop-end.end c.loop-end.invariant.1 c.loop-end-test.true c.item_end-next.result c.item_end-next.ensures).rest,
-)
-
-pub returns-then-not-follows : goal.returns-then-not-follows
-returns-then-not-follows c =
-    Steps.rise-no (read_item c.args.listed) c.args.bytes.now c.loop-end.end c.loop-end.invariant.1 (key c.args.listed) c.loop-end-test.true c.item_end-next.result c.item_end-next.ensures _ c.follows.ensures c.if-not-follows.true
-    ∙ c.loop-end.invariant.2
-
-pub loop-end-preserved : goal.loop-end-preserved
-loop-end-preserved c =
-    let s = Steps.step (read_item c.args.listed) c.args.bytes.now c.loop-end.end c.loop-end.invariant.1 c.loop-end-test.true c.item_end-next.result c.item_end-next.ensures in (
-      s.more,
-      s.rest,
-      Steps.rise-on (read_item c.args.listed) c.args.bytes.now c.loop-end.end c.loop-end.invariant.1 (key c.args.listed) c.loop-end-test.true c.item_end-next.result c.item_end-next.ensures _ c.follows.ensures c.if-not-follows.false
-          ∙ c.loop-end.invariant.2,
-    )
-
 pub returns : goal.returns
-returns c = Steps.rise-end (read_item c.args.listed) c.args.bytes.now c.loop-end.end c.loop-end.invariant.1 (key c.args.listed) c.loop-end-test.false ∙ c.loop-end.invariant.2
+returns c =
+    let l = c.args.listed in
+    let bs = c.args.bytes.now in
+    c.is_some.ensures
+    ∙ ap is_some (c.walk.ensures.is (λ x rest. before (key l) (key l x) rest) (λ item next b h p. let t : b ≡ before (key l) (key_at l bs item) (list_at l bs next) = search rules in t ∙ before-holds (key l) (list_at l bs next) _ h.0))
+    ∙ walked _ _ ∙ each-rises (key l) _

@@ -19,10 +19,10 @@ text_end-b_id-requires c = (uid-parts c.args.bytes.now c.args.b c.requires.1).ty
 
 pub same_text-requires-2 : goal.same_text-requires-2
 same_text-requires-2 c = (
-  got-at read_text c.args.bytes.now _ _ c.text_end-a_id.ensures.ends.0 (uid-parts c.args.bytes.now c.args.a c.requires.0).eid,
-  got-at read_text c.args.bytes.now _ _ c.text_end-b_id.ensures.ends.0 (uid-parts c.args.bytes.now c.args.b c.requires.1).eid,
+  got-at read_text c.args.bytes.now _ _ c.text_end-a_id.ensures.is (uid-parts c.args.bytes.now c.args.a c.requires.0).eid,
+  got-at read_text c.args.bytes.now _ _ c.text_end-b_id.ensures.is (uid-parts c.args.bytes.now c.args.b c.requires.1).eid,
 )
 
 pub returns : goal.returns
 returns c =
-    ids-agree c.args.bytes.now c.args.a c.args.b c.requires.0 c.requires.1 _ _ _ c.text_end-a_id.ensures.ends.0 c.text_end-b_id.ensures.ends.0 (sym c.same_text.ensures ∙ c.if-not-same_text.false) c.same_text-2.ensures
+    ids-agree c.args.bytes.now c.args.a c.args.b c.requires.0 c.requires.1 _ _ _ c.text_end-a_id.ensures.is c.text_end-b_id.ensures.is (sym c.same_text.ensures ∙ c.if-not-same_text.false) c.same_text-2.ensures

@@ -1,13 +1,40 @@
-use Rattle.std.proofs.Common.{◌∙◌}
-use Rattle.schema_rows.specs.Lists.{next_by, PartIn}
-use Rattle.schema_rows.proofs.Steps.{past-step, all_here, all-next}
+use Rattle.std.proofs.Common.{◌≡◌, ℕ, ◌+◌, ◌-◌, ◌<◌, ◌≤◌, List, get_or, sym, ap, ◌∙◌, subst, arith}
+use Rattle.schema_rows.specs.Lists.{past, AllFrom}
+use Rattle.schema_rows.proofs.Steps.{past-step, past-none, all_here, all-next}
 use Rattle.schema_rows.proofs.lists.skip_list.Goals as goal
 
-pub skip-e-requires : goal.skip-e-requires
-skip-e-requires c = all_here (PartIn c.args.store.now c.args.part) (next_by c.args.store.now c.args.part) c.loop-left.left c.loop-left.e c.loop-left-test.true c.loop-left.invariant.1
+pub loop-init : goal.loop-init
+loop-init g c =
+    let m : List ℕ = c.args.store.now in
+    let z : get_or m c.args.p 0 ≡ get_or m c.args.p 0 - 0 = omega arith in
+    (ap (λ k. past (g.T.Listed.behind m) k (c.args.p + 1)) (sym z), subst (λ k. AllFrom (g.T.Listed.lies m) (g.T.Listed.behind m) k (c.args.p + 1)) z c.requires.each)
 
-pub loop-left-preserved : goal.loop-left-preserved
-loop-left-preserved c = (
-  past-step (next_by c.args.store.now c.args.part) c.loop-left.left c.loop-left.e c.skip-e.result c.loop-left-test.true c.skip-e.ensures ∙ c.loop-left.invariant.0,
-  all-next (PartIn c.args.store.now c.args.part) (next_by c.args.store.now c.args.part) c.loop-left.left c.loop-left.e c.skip-e.result c.loop-left-test.true c.skip-e.ensures c.loop-left.invariant.1,
-)
+pub skip-e-requires : goal.skip-e-requires
+skip-e-requires g c =
+    let m : List ℕ = c.args.store.now in
+    let next : ℕ → ℕ = g.T.Listed.behind m in
+    let n : ℕ = get_or m c.args.p 0 in
+    let k : ℕ = n - c.loop.counter in
+    let l : 0 < k = omega (arith, c.loop-test.true) in
+    all_here (g.T.Listed.lies m) next k c.loop.e l c.loop.invariant.1
+
+pub loop-preserved : goal.loop-preserved
+loop-preserved g c =
+    let m : List ℕ = c.args.store.now in
+    let next : ℕ → ℕ = g.T.Listed.behind m in
+    let n : ℕ = get_or m c.args.p 0 in
+    let k : ℕ = n - c.loop.counter in
+    let l : 0 < k = omega (arith, c.loop-test.true) in
+    let i : n - (c.loop.counter + 1) ≡ k - 1 = omega arith in (
+      past-step next k c.loop.e c.skip-e.result (n - (c.loop.counter + 1)) l c.skip-e.ensures i ∙ c.loop.invariant.0,
+      all-next (g.T.Listed.lies m) next k c.loop.e c.skip-e.result (n - (c.loop.counter + 1)) l c.skip-e.ensures i c.loop.invariant.1,
+    )
+
+pub returns : goal.returns
+returns g c =
+    let m : List ℕ = c.args.store.now in
+    let next : ℕ → ℕ = g.T.Listed.behind m in
+    let n : ℕ = get_or m c.args.p 0 in
+    let k : ℕ = n - c.loop.counter in
+    let l : k ≤ 0 = omega (arith, c.loop-test.false) in
+    sym (past-none next k c.loop.e l) ∙ c.loop.invariant.0

@@ -13,4 +13,4 @@ stays m at old new used e =
     sym here ∙ ap (λ k. moved m at old k used) e
 
 pub returns-else-old-new : goal.returns-else-old-new
-returns-else-old-new c = stays c.args.memory.now c.args.at c.args.old c.args.new c.args.used c.if-old-new.false
+returns-else-old-new c = stays c.args.memory.now c.args.splice.at c.args.splice.old c.args.splice.new c.args.used c.if-old-new.false

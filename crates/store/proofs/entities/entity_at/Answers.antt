@@ -5,7 +5,6 @@ use Rattle.store.proofs.entities.entity_at.Goals as goal
 pub place_at-at-requires : goal.place_at-at-requires
 place_at-at-requires c =
     record {
-      small = c.requires.small;
       tabled = tabled c.args.store.now c.requires.good _ c.header_of-header.ensures.says _ c.table_of.ensures.from c.table_of.ensures.places c.table_of.ensures.count;
       under = omega (arith, c.requires.under, c.table_of.ensures.count, c.header_of-header.ensures.says.entity-count-is);
     }

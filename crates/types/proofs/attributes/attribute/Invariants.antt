@@ -1,15 +1,12 @@
-use Rattle.std.proofs.Common.{◌≡◌, ℕ, length}
+use Rattle.std.proofs.Common.{ℕ, ◌+◌, ◌-◌, Bool, List}
 use Rattle.values.specs.Held.{text_at}
-use Rattle.types.specs.Held.{decode, Good, GoodFrom}
-use Rattle.types.proofs.Finds.{seen}
+use Rattle.types.specs.Held.{is_stored, place_of, count_at}
+use Rattle.types.proofs.Finds.{Looking}
 use Rattle.types.proofs.attributes.attribute.Given as goal
 
--- what is left gives what all gives, to each height to which all is good
-abbrev pub invariant-loop-left : goal.invariant-loop-left
-invariant-loop-left l =
-    (h : ℕ) → GoodFrom (Good h l.store l.work 0 (length l.work)) l.stored l.store l.work (length l.work) l.initial.left l.initial.e
-    → GoodFrom (Good h l.store l.work 0 (length l.work)) l.stored l.store l.work (length l.work) l.left l.e
-    × (seen (decode h l.store l.work) l.stored l.store l.work (text_at l.store l.name) l.left l.e ≡ seen (decode h l.store l.work) l.stored l.store l.work (text_at l.store l.name) l.initial.left l.initial.e)
-
-abbrev pub decreases-loop-left : goal.decreases-loop-left
-decreases-loop-left l = l.left
+abbrev pub invariant-loop : goal.invariant-loop
+invariant-loop l =
+    let m : List ℕ = l.memory.store.now in
+    let w : List ℕ = l.memory.work.now in
+    let b : Bool = is_stored l.place in
+    Looking m w b (text_at m l.name) (count_at b m w (place_of l.place)) (place_of l.place + 1) (l.n - l.counter) l.e

@@ -1,67 +1,23 @@
-use Rattle.std.proofs.Common.{◌≡◌, ℕ, ◌<◌, true, false, List, ◌++◌, sym, ap, ◌∙◌, subst, arith}
+use Rattle.std.proofs.Common.{◌≡◌, ℕ, List, true, false, ap, ◌∙◌, rules, arith}
+use Rattle.std.proofs.lemmas.Iterator.{YieldsList-from_range, cases_from_all}
 use Rattle.spec.specs.Basics.{all}
 use Rattle.spec.specs.Values as s
 use Rattle.spec.specs.Evaluate.{is_in}
-use Rattle.values.specs.Held.{Good, decode, element_at, elements_of, count}
+use Rattle.values.specs.Memory.{numbers}
+use Rattle.values.specs.Held.{decode, element_at, elements_of, count}
 use Rattle.values.specs.declared.nodes.Value.TheVariants.{Set}
 use Rattle.values.proofs.Frame.{set-in, set_is}
-use Rattle.values.proofs.Runs.{lies_in}
-use Rattle.values.proofs.Finds.{all-step, all-all, all_none}
+use Rattle.values.proofs.Finds.{all-told}
 use Rattle.values.proofs.sets.contains_all.Goals as goal
 
-pub overflow_add-q : goal.overflow_add-q
-overflow_add-q c =
-    let m : List ℕ = c.args.store.now ++ c.args.work.now in
-    let f = (set-in m c.args.height c.args.q c.requires.other).fits in
-    omega (arith, f, c.requires.small)
-
-pub word-n-requires : goal.word-n-requires
-word-n-requires c =
-    let m : List ℕ = c.args.store.now ++ c.args.work.now in
-    omega (arith, (set-in m c.args.height c.args.q c.requires.other).fits)
-
-pub loop-i-init : goal.loop-i-init
-loop-i-init c =
-    let m : List ℕ = c.args.store.now ++ c.args.work.now in
-    let ws : List s.Value = elements_of (decode c.args.height m (Set c.args.p)) in
-    all-all (λ x. is_in x ws) (λ j. decode c.args.height m (element_at m c.args.q j)) (count m c.args.q)
-    ∙ ap (λ v. all (λ x. is_in x ws) (elements_of v)) (set_is m c.args.height c.args.q c.requires.other)
-
-pub element_of-w-requires : goal.element_of-w-requires
-element_of-w-requires c =
-    let m : List ℕ = c.args.store.now ++ c.args.work.now in
-    let g = set-in m c.args.height c.args.q c.requires.other in
-    let l : c.loop-i.i < count m c.args.q = omega (arith, c.word-n.ensures) in
-    record { small = c.requires.small; fits = g.fits; under = l; lies = lies_in c.args.height m (element_at m c.args.q c.loop-i.i) c.requires.small (g.each c.loop-i.i l) }
-
-pub contains-requires : goal.contains-requires
-contains-requires c =
-    let m : List ℕ = c.args.store.now ++ c.args.work.now in
-    let l : c.loop-i.i < count m c.args.q = omega (arith, c.word-n.ensures) in
-    record {
-      small = c.requires.small;
-      whole = c.requires.whole;
-      value = subst (Good c.args.height m) (sym c.element_of-w.ensures) ((set-in m c.args.height c.args.q c.requires.other).each c.loop-i.i l);
-    }
-
-pub returns-then-not-contains : goal.returns-then-not-contains
-returns-then-not-contains c =
-    let m : List ℕ = c.args.store.now ++ c.args.work.now in
-    let f : ℕ → s.Value = λ j. decode c.args.height m (element_at m c.args.q j) in
-    let ws : List s.Value = elements_of (decode c.args.height m (Set c.args.p)) in
-    let e : false ≡ is_in (f c.loop-i.i) ws = c.if-not-contains.ensures ∙ ap (λ w. is_in (decode c.args.height m w) ws) c.element_of-w.ensures in
-    sym (all-step (λ x. is_in x ws) f (count m c.args.q) c.loop-i.i false (omega (arith, c.word-n.ensures)) e) ∙ c.loop-i.invariant
-
-pub loop-i-preserved : goal.loop-i-preserved
-loop-i-preserved c =
-    let m : List ℕ = c.args.store.now ++ c.args.work.now in
-    let f : ℕ → s.Value = λ j. decode c.args.height m (element_at m c.args.q j) in
-    let ws : List s.Value = elements_of (decode c.args.height m (Set c.args.p)) in
-    let e : true ≡ is_in (f c.loop-i.i) ws = c.if-not-contains.ensures ∙ ap (λ w. is_in (decode c.args.height m w) ws) c.element_of-w.ensures in
-    sym (all-step (λ x. is_in x ws) f (count m c.args.q) c.loop-i.i true (omega (arith, c.word-n.ensures)) e) ∙ c.loop-i.invariant
+pub count_of-requires : goal.count_of-requires
+count_of-requires c = omega (arith, (set-in (numbers c.args.memory.now) c.args.height c.args.q c.requires.other).fits)
 
 pub returns : goal.returns
 returns c =
-    let m : List ℕ = c.args.store.now ++ c.args.work.now in
-    sym (all_none (λ x. is_in x (elements_of (decode c.args.height m (Set c.args.p)))) (λ j. decode c.args.height m (element_at m c.args.q j)) (count m c.args.q) c.loop-i.i
-    (omega (arith, c.word-n.ensures, c.loop-i.auto.i-end))) ∙ c.loop-i.invariant
+    let m : List ℕ = numbers c.args.memory.now in
+    let f : ℕ → s.Value = λ j. decode c.args.height m (element_at m c.args.q j) in
+    let ws : List s.Value = elements_of (decode c.args.height m (Set c.args.p)) in
+    all-told (λ x. is_in x ws) f (count m c.args.q) c.all.result
+    (cases_from_all _ _ _ (λ j. is_in (f j) ws ≡ true) (λ j. is_in (f j) ws ≡ false) c.all.ensures.ran (YieldsList-from_range 0 (count m c.args.q) (count m c.args.q) (cc) (omega arith)) (λ x q k. search rules) (λ x q k. search rules))
+    ∙ ap (λ v. all (λ x. is_in x ws) (elements_of v)) (set_is m c.args.height c.args.q c.requires.other)

@@ -1,43 +1,18 @@
-use Rattle.std.proofs.Common.{ℕ, ◌+◌, List, ◌++◌, get_or, sym, ap, ◌∙◌, arith}
-use Rattle.values.specs.Order.{next}
-use Rattle.values.proofs.Parts.{left, left_step, left-same, left_less, left-greater, left-all, nat-less, nat-greater, nat-same}
+use Rattle.std.specs.Ordering.{nat_cmp}
+use Rattle.std.specs.Iterator.Adapters.{map_callee}
+use Rattle.std.specs.Cmp.Lexicographic.{slice_cmp}
+use Rattle.std.proofs.Common.{◌≡◌, ℕ, ◌+◌, List, get_or, refl, ap, ◌∙◌, ap₂, rules, arith}
+use Rattle.std.proofs.lemmas.Iterator.{YieldsList-from_range, YieldsList-from_map}
+use Rattle.std.proofs.lemmas.Iterator.Search.{cmp_from_yields_List}
+use Rattle.values.specs.Memory.{numbers}
+use Rattle.values.proofs.Parts.{part-words}
 use Rattle.values.proofs.texts.compare_parts.Goals as goal
 
-pub loop-i-init : goal.loop-i-init
-loop-i-init c = (omega arith, left-all (c.args.store.now ++ c.args.work.now) c.args.p c.args.n c.args.q c.args.k)
-
-pub returns-then-a-b : goal.returns-then-a-b
-returns-then-a-b c =
-    let m : List ℕ = c.args.store.now ++ c.args.work.now in
-    let s = left_step m c.args.p c.args.n c.args.q c.args.k c.loop-i.i c.requires.left c.requires.right (omega arith) (omega (arith, c.loop-i.invariant.0)) in
-    let o = nat-less (get_or m (c.args.p + c.loop-i.i) 0) (get_or m (c.args.q + c.loop-i.i) 0) (omega (arith, c.word-a.ensures, c.word-b.ensures)) in
-    sym (ap (λ x. next x (left m c.args.p c.args.n c.args.q c.args.k (c.loop-i.i + 1))) o) ∙ sym s ∙ c.loop-i.invariant.1
-
-pub returns-then-b-a : goal.returns-then-b-a
-returns-then-b-a c =
-    let m : List ℕ = c.args.store.now ++ c.args.work.now in
-    let s = left_step m c.args.p c.args.n c.args.q c.args.k c.loop-i.i c.requires.left c.requires.right (omega arith) (omega (arith, c.loop-i.invariant.0)) in
-    let o = nat-greater (get_or m (c.args.p + c.loop-i.i) 0) (get_or m (c.args.q + c.loop-i.i) 0) (omega (arith, c.word-a.ensures, c.word-b.ensures)) in
-    sym (ap (λ x. next x (left m c.args.p c.args.n c.args.q c.args.k (c.loop-i.i + 1))) o) ∙ sym s ∙ c.loop-i.invariant.1
-
-pub loop-i-preserved : goal.loop-i-preserved
-loop-i-preserved c =
-    let m : List ℕ = c.args.store.now ++ c.args.work.now in
-    let s = left_step m c.args.p c.args.n c.args.q c.args.k c.loop-i.i c.requires.left c.requires.right (omega arith) (omega (arith, c.loop-i.invariant.0)) in
-    let o = nat-same (get_or m (c.args.p + c.loop-i.i) 0) (get_or m (c.args.q + c.loop-i.i) 0) (omega (arith, c.word-a.ensures, c.word-b.ensures)) (omega (arith, c.word-a.ensures, c.word-b.ensures)) in
-    (omega (arith, c.loop-i.invariant.0), sym (ap (λ x. next x (left m c.args.p c.args.n c.args.q c.args.k (c.loop-i.i + 1))) o) ∙ sym s ∙ c.loop-i.invariant.1)
-
-pub returns-then-i-k : goal.returns-then-i-k
-returns-then-i-k c =
-    let m : List ℕ = c.args.store.now ++ c.args.work.now in
-    sym (left-greater m c.args.p c.args.n c.args.q c.args.k c.loop-i.i c.requires.left (omega arith) (omega arith)) ∙ c.loop-i.invariant.1
-
-pub returns-then-n-k : goal.returns-then-n-k
-returns-then-n-k c =
-    let m : List ℕ = c.args.store.now ++ c.args.work.now in
-    sym (left_less m c.args.p c.args.n c.args.q c.args.k c.loop-i.i c.requires.right (omega arith) (omega (arith, c.loop-i.auto.i-end))) ∙ c.loop-i.invariant.1
-
-pub returns-else-n-k : goal.returns-else-n-k
-returns-else-n-k c =
-    let m : List ℕ = c.args.store.now ++ c.args.work.now in
-    sym (left-same m c.args.p c.args.n c.args.q c.args.k c.loop-i.i (omega arith) (omega (arith, c.loop-i.auto.i-end))) ∙ c.loop-i.invariant.1
+pub returns : goal.returns
+returns c =
+    let m : List ℕ = numbers c.args.memory.now in
+    cmp_from_yields_List (λ x y. y ≡ x) _ nat_cmp _ c.cmp.ensures.ran
+    (YieldsList-from_map _ (λ i. get_or m i 0) (YieldsList-from_range c.args.p (c.args.p + c.args.n) c.args.n (cc) (omega arith)) refl (λ x r q k. search rules))
+    (λ it e. YieldsList-from_map _ (λ i. get_or m i 0) (YieldsList-from_range c.args.q (c.args.q + c.args.k) c.args.k (cc) (omega arith)) (ap map_callee e) (λ x r q k. search rules))
+    (λ x y. refl)
+    ∙ ap₂ (slice_cmp nat_cmp) (part-words m c.args.p c.args.n c.requires.left) (part-words m c.args.q c.args.k c.requires.right)

@@ -1,12 +1,21 @@
-use Rattle.std.proofs.Common.{◌+◌, ◌++◌, ◌∙◌, arith}
-use Rattle.values.proofs.Parts.{text-less, text-greater, text_same}
+use Rattle.std.specs.declared.cmp.Ordering.{Ordering}
+use Rattle.std.specs.declared.cmp.Ordering.TheVariants.{Less, Equal, Greater}
+use Rattle.std.specs.Ordering.{MatchOrdering, ordering_then}
+use Rattle.std.proofs.Common.{◌≡◌, ◌∙◌, ap, ap₂, nat_cmp, sym, rules}
+use Rattle.values.specs.Memory.{numbers}
+use Rattle.values.specs.Order.{order_row}
+use Rattle.values.specs.Held.{text_at}
+use Rattle.values.proofs.Parts.{lengths}
 use Rattle.values.proofs.texts.compare_texts.Goals as goal
 
-pub returns-then-n-k : goal.returns-then-n-k
-returns-then-n-k c = text-less (c.args.store.now ++ c.args.work.now) c.args.p c.args.q c.requires.left c.requires.right (omega (arith, c.word-n.ensures, c.word-k.ensures))
-
-pub returns-then-k-n : goal.returns-then-k-n
-returns-then-k-n c = text-greater (c.args.store.now ++ c.args.work.now) c.args.p c.args.q c.requires.left c.requires.right (omega (arith, c.word-n.ensures, c.word-k.ensures))
+then-tells : (o a r : Ordering) (P : Type 0) → MatchOrdering o (r ≡ Less) P (r ≡ Greater) → (P → r ≡ a) → r ≡ ordering_then o a
+then-tells Less a r P m f = m
+then-tells Equal a r P m f = f m
+then-tells Greater a r P m f = m
 
 pub returns : goal.returns
-returns c = c.compare_parts.ensures ∙ text_same (c.args.store.now ++ c.args.work.now) c.args.p c.args.q c.word-n.result c.word-k.result c.requires.left c.requires.right c.word-n.ensures c.word-k.ensures (omega arith)
+returns c =
+    let o = lengths (numbers c.args.memory.now) c.args.p c.args.q c.requires.left c.requires.right in
+    let a = order_row (text_at (numbers c.args.memory.now) c.args.p) (text_at (numbers c.args.memory.now) c.args.q) in
+    then-tells c.cmp.result a c.then_with.result _ c.then_with.ensures (λ h. search rules)
+    ∙ ap (λ u. ordering_then u a) (c.cmp.ensures ∙ ap₂ nat_cmp c.word-n.ensures c.word-k.ensures ∙ sym o)

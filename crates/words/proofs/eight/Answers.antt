@@ -1,7 +1,0 @@
--- An element of what is left from a place is the element that far behind the place.
-use Rattle.std.proofs.Common.{add-zero}
-use Rattle.std.proofs.lemmas.List.{get_or-drop}
-use Rattle.words.proofs.eight.Goals as goal
-
-pub returns : goal.returns
-returns c = simp (get_or-drop, add-zero) c.from_be_bytes.ensures
