@@ -23,17 +23,26 @@ fn short_answers(rt: HostRuntime) {
 fn not_valid(rt: HostRuntime) {
     let mut out = [9u8; 13];
     assert_eq!(rt;
-        write_not_valid(&mut out, [112u64, 52].as_slice(), Why::AttributeNotFound),
+        write_not_valid(&mut out, &[112, 52], Why::AttributeNotFound),
         Some(12)
     );
     assert_eq!(rt; &out, b"\x03\0\0\0\0\0\0\0\x02p4\x03\x09");
 }
 
 #[test]
+fn an_id_in_a_vector(rt: HostRuntime) -> Result<(), Fail> {
+    let id = vec![in rt.alloc(); 112u64, 52]?;
+    let mut out = [9u8; 10];
+    assert_eq!(rt; put_text(&mut out, 0, &id), Some(10));
+    assert_eq!(rt; &out, b"\0\0\0\0\0\0\0\x02p4");
+    Ok(())
+}
+
+#[test]
 fn request(rt: HostRuntime) {
     let mut out = [9u8; 18];
     assert_eq!(rt; write_decision(&mut out, Decision::Allow), Some(2));
-    assert_eq!(rt; put_item(&mut out, 2, [112u64, 49].as_slice()), Some(13));
+    assert_eq!(rt; put_item(&mut out, 2, &[112, 49]), Some(13));
     assert_eq!(rt; put_end(&mut out, 13), Some(14));
     assert_eq!(rt; put_end(&mut out, 14), Some(15));
     assert_eq!(rt; put_flags(&mut out, 15, true, false), Some(17));
@@ -46,7 +55,7 @@ fn pieces(rt: HostRuntime) {
     assert_eq!(rt; put_byte(&mut out, 9, 7), Some(10));
     assert_eq!(rt; put_word(&mut out, 1, 258), Some(9));
     assert_eq!(rt; &out, b"\x09\0\0\0\0\0\0\x01\x02\x07");
-    assert_eq!(rt; put_text(&mut out, 1, [255u64].as_slice()), Some(10));
+    assert_eq!(rt; put_text(&mut out, 1, &[255]), Some(10));
     assert_eq!(rt; &out, b"\x09\0\0\0\0\0\0\0\x01\xff");
 }
 
@@ -54,13 +63,10 @@ fn pieces(rt: HostRuntime) {
 fn no_room(rt: HostRuntime) {
     let mut out = [9u8; 9];
     assert_eq!(rt; write_refusal(&mut out, Refusal::NotACall, 0), None);
-    assert_eq!(rt;
-        write_not_valid(&mut out, [0u64; 0].as_slice(), Why::NeverTrue),
-        None
-    );
-    assert_eq!(rt; put_text(&mut out, 1, [65u64].as_slice()), None);
+    assert_eq!(rt; write_not_valid(&mut out, &[], Why::NeverTrue), None);
+    assert_eq!(rt; put_text(&mut out, 1, &[65]), None);
     assert_eq!(rt; put_word(&mut out, 2, 1), None);
-    assert_eq!(rt; put_item(&mut out, 1, [0u64; 0].as_slice()), None);
+    assert_eq!(rt; put_item(&mut out, 1, &[]), None);
     assert_eq!(rt; put_flags(&mut out, 8, true, true), None);
     assert_eq!(rt; put_end(&mut out, 9), None);
     assert_eq!(rt; &out, &[9u8; 9]);

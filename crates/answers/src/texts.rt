@@ -3,6 +3,8 @@ ghost use Rattle.std.specs.Prelude.{◌≡◌, ℕ, ◌+◌, ◌^◌, ◌<◌, t
 ghost use Rattle.spec.specs.Calls.{all_below};
 ghost use Rattle.spec.specs.Bytes.{encode_text};
 
+use std::alloc::Allocator;
+
 // A text that can be read byte by byte.
 pub trait Text: Copy {
     // That the text is there, and that what it holds are bytes.
@@ -33,6 +35,38 @@ impl Text for &[u64] {
 
     fn byte(&self, i: usize) -> u8 {
         self[i] as u8
+    }
+}
+
+// An array and a vector are texts as the slices that they are lent as.
+impl<const N: usize> Text for &[u64; N] {
+    ghost is_text = { λ text. all_below 256 text.now ≡ true };
+
+    ghost bytes = { λ text. text.now };
+
+    fn len(&self) -> usize {
+        let numbers: &[u64] = &self[..];
+        numbers.len()
+    }
+
+    fn byte(&self, i: usize) -> u8 {
+        let numbers: &[u64] = &self[..];
+        numbers[i] as u8
+    }
+}
+
+impl<A: Allocator> Text for &Vec<u64, A> {
+    ghost is_text = { λ text. all_below 256 text.now.items ≡ true };
+
+    ghost bytes = { λ text. text.now.items };
+
+    fn len(&self) -> usize {
+        (**self).len()
+    }
+
+    fn byte(&self, i: usize) -> u8 {
+        let items = (**self).as_slice();
+        items[i] as u8
     }
 }
 

@@ -7,11 +7,11 @@ use std::error::Error;
 use std::fmt;
 use words::first_text;
 
-// The file, and the place in it at which the next call stands.
+// The file, and the place in it at which the next call stands: any place, and behind the file there is none.
 #[derive(Clone, Copy, Debug)]
 pub struct Calls<'a> {
-    file: &'a [u8],
-    at: usize,
+    pub file: &'a [u8],
+    pub at: usize,
 }
 
 // The place of a call inside which the file ends.

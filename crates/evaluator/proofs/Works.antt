@@ -24,10 +24,10 @@ use Rattle.evaluator.proofs.Steps.{moved-one, moved-two, says-taller, of-request
 
 -- what the definitions are given
 abbrev pub request_of : Inputs → Work → s.Request
-request_of i w = request_at (made i w) i.env.request
+request_of i w = request_at (made i w) i.env.now.request
 
 abbrev pub entities_of : Inputs → s.Entities
-entities_of i = entities_at i.store.now i.env.entities
+entities_of i = entities_at i.store.now i.env.now.entities
 
 -- ---- what is left
 pub moves-one : {w w₁ : Work} {a : ℕ} (c : ℕ) → a ≤ c → Moves w w₁ a → Moves w w₁ c
@@ -42,7 +42,7 @@ room-left w w₁ a b c le h M = omega (arith, M.long, M.moved.few)
 -- what is asked stays, as the work memory grows
 module _ (i : Inputs) (w w₁ : Work) (rises : w.top ≤ w₁.top) (keeps : take w.top w₁.numbers.now ≡ take w.top w.numbers.now) (A : IsAsked i w) where
   grown : IsAsked i w₁ × (request_of i w₁ ≡ request_of i w)
-  grown = request-grows i.store.now w.numbers.now w₁.numbers.now w.top w₁.top i.env.entities i.env.request rises keeps A
+  grown = request-grows i.store.now w.numbers.now w₁.numbers.now w.top w₁.top i.env.now.entities i.env.now.request rises keeps A
 
   pub asked-since : IsAsked i w₁
   asked-since = grown.0
@@ -81,16 +81,16 @@ pub last-operand : (i : Inputs) (w : Work) (h : ℕ) (v : Value) (o : Except Err
 last-operand i w h v o d = operand i.store.now w.numbers.now w.numbers.now w.top w.top h v o (omega arith) refl d
 
 -- of what is given and all that is made by now, as it is seen at once
-module _ (P : List ℕ → List ℕ → Env → Type 0) (i : Inputs) (w : Work) (v : EnvView) (e : v.memory.store.now ≡ i.store.now) (f : v.memory.work.now ≡ take w.top w.numbers.now) (g : v.env ≡ i.env) where
-  pub seen : P i.store.now (made i w) i.env → P v.memory.store.now (numbers v.memory) v.env
+module _ (P : List ℕ → List ℕ → Env → Type 0) (i : Inputs) (w : Work) (v : EnvView) (e : v.memory.store.now ≡ i.store.now) (f : v.memory.work.now ≡ take w.top w.numbers.now) (g : v.env ≡ i.env.now) where
+  pub seen : P i.store.now (made i w) i.env.now → P v.memory.store.now (numbers v.memory) v.env
   seen p =
       subst (λ k. P v.memory.store.now (numbers v.memory) k) (sym g)
-      (subst (λ k. P k (k ++ v.memory.work.now) i.env) (sym e) (subst (λ k. P i.store.now (i.store.now ++ k) i.env) (sym f) p))
+      (subst (λ k. P k (k ++ v.memory.work.now) i.env.now) (sym e) (subst (λ k. P i.store.now (i.store.now ++ k) i.env.now) (sym f) p))
 
-  pub as-seen : P v.memory.store.now (numbers v.memory) v.env → P i.store.now (made i w) i.env
+  pub as-seen : P v.memory.store.now (numbers v.memory) v.env → P i.store.now (made i w) i.env.now
   as-seen p =
-      subst (λ k. P i.store.now (i.store.now ++ k) i.env) f
-      (subst (λ k. P k (k ++ v.memory.work.now) i.env) e (subst (λ k. P v.memory.store.now (numbers v.memory) k) g p))
+      subst (λ k. P i.store.now (i.store.now ++ k) i.env.now) f
+      (subst (λ k. P k (k ++ v.memory.work.now) i.env.now) e (subst (λ k. P v.memory.store.now (numbers v.memory) k) g p))
 
 -- ---- if: the second or the third is evaluated, by the first
 -- what is evaluated next is one of two rows

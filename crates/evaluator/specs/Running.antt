@@ -21,7 +21,7 @@ made i w = up_to i.store.now w.numbers.now w.top
 
 -- the request lies in that memory, and its entities are those of the store
 abbrev pub IsAsked : Inputs → Work → Type 0
-IsAsked i w = RequestIn i.store.now (made i w) i.env.entities i.env.request
+IsAsked i w = RequestIn i.store.now (made i w) i.env.now.entities i.env.now.request
 
 -- ---- the expression whose row lies at a place of the store
 abbrev pub GoodRow : Inputs → ℕ → Type 0
@@ -35,7 +35,7 @@ expr_of i at = expr_at i.height i.store.now at
 
 -- what an expression comes to by the definitions
 abbrev pub comes_to : Inputs → Work → Expr → Except Error s.Value
-comes_to i w x = evaluate x (request_at (made i w) i.env.request) (entities_at i.store.now i.env.entities)
+comes_to i w x = evaluate x (request_at (made i w) i.env.now.request) (entities_at i.store.now i.env.now.entities)
 
 -- what is told of an expression one higher is what it comes to
 abbrev pub Tells : Inputs → Work → Work → Result Value EvalError → Expr → Type 0

@@ -11,6 +11,7 @@ ghost use Rattle.entities.specs.Code.{AnswersOf2};
 ghost use Rattle.exprs.specs.Stored.{op_of};
 ghost use Rattle.evaluator.specs.Evaluated.{UnaryIn, AnswersOf1};
 
+pub use entities::Env;
 use entities::EnvView;
 use exprs::BinaryOp;
 use operators::like::like;

@@ -43,7 +43,11 @@ pub fn eval(
         numbers: work,
         top: *top,
     };
-    let inputs = Inputs { store, env, height };
+    let inputs = Inputs {
+        store,
+        env: &env,
+        height,
+    };
     let result = eval_row(inputs, &mut work, at);
     let Work {
         numbers: _,
@@ -105,8 +109,8 @@ fn eval_form(inputs: Inputs<'_>, work: &mut Work<'_>, e: Expr) -> Result<Value, 
 }
 
 // The words of an expression stand for what is asked.
-fn value_of(env: Env, v: Var) -> Value
-    ensures { result ≡ var_value env v }
+fn value_of(env: &Env, v: Var) -> Value
+    ensures { result ≡ var_value env.now v }
 {
     match v {
         Var::Principal => Value::Entity(env.request.principal.uid),
@@ -233,7 +237,7 @@ fn eval_below(
         inputs.store,
         part,
         &mut work.top,
-        inputs.env,
+        *inputs.env,
         at,
         inputs.height,
     )

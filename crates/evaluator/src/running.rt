@@ -7,14 +7,15 @@ use entities::{Env, EnvView};
 use values::Memory;
 
 // The height is that of the highest expression that may be evaluated; it falls. That a row is good there, and that the request lies in what is made by now,
-// are clauses and no fields, since they speak of a place and of the work memory too.
+// are clauses and no fields, since they speak of a place and of the work memory too. The environment is lent: each level of an evaluation makes inputs of its
+// own, and pays for their size.
 #[derive(Clone, Copy)]
 pub(crate) struct Inputs<'a> {
     pub store: &'a [u64],
-    pub env: Env,
+    pub env: &'a Env,
     pub height: u64,
     pub ghost low: { height ≤ 65 },
-    pub ghost all: { EntitiesIn store.now env.entities } by { EntitiesIn-prop store.now env.entities },
+    pub ghost all: { EntitiesIn store.now env.now.entities } by { EntitiesIn-prop store.now env.now.entities },
 }
 
 // Values are made from `top` on. Each function that takes it says that it leaves the same reference in it (`same`): so its caller knows what is made.
@@ -32,7 +33,7 @@ impl Work<'_> {
         requires asked { IsAsked inputs self.now }
         ensures store { result.memory.store.now ≡ inputs.entry.store.now }
         ensures work { result.memory.work.now ≡ take self.entry.now.top self.entry.now.numbers.now }
-        ensures env { result.env ≡ inputs.entry.env }
+        ensures env { result.env ≡ inputs.entry.env.now }
     {
         let top = self.top;
         EnvView {
@@ -40,7 +41,7 @@ impl Work<'_> {
                 store: inputs.store,
                 work: &self.numbers[..top],
             },
-            env: inputs.env,
+            env: *inputs.env,
         }
     }
 }

@@ -1,7 +1,7 @@
 -- One text appended after another.
-use Rattle.std.proofs.Common.{◌≡◌, ℕ, ◌+◌, ◌<◌, ◌≤◌, List, [], ◌∷◌, ◌++◌, length, get_or, take, sym, refl, ap, ◌∙◌, append_assoc}
+use Rattle.std.proofs.Common.{◌≡◌, ℕ, ◌+◌, ◌/◌, ◌%◌, ◌<◌, ◌≤◌, List, [], ◌∷◌, ◌++◌, length, get_or, take, sym, refl, ap, ◌∙◌, append_assoc}
 use Rattle.std.proofs.lemmas.List.{take_more, take_all, append-nil}
-use Rattle.lines.specs.Quotes.{escape, escapes, quote}
+use Rattle.lines.specs.Quotes.{hex_digit, hex_escape, escape, escapes, quote}
 
 pub joined : (a b c x y : List ℕ) → b ≡ a ++ x → c ≡ b ++ y → c ≡ a ++ (x ++ y)
 joined a b c x y p q = q ∙ ap (λ l. l ++ y) p ∙ append_assoc a x y
@@ -29,6 +29,11 @@ pub quote-whole : (a b d e id : List ℕ) (n : ℕ) → b ≡ a ++ (34 ∷ []) �
 quote-whole a b d e id n p q all r =
     let whole : d ≡ b ++ escapes id = q ∙ ap (λ l. b ++ escapes l) (take_all n id all) in
     joined a b e (34 ∷ []) (escapes id ++ (34 ∷ [])) p (joined b d e (escapes id) (34 ∷ []) whole r)
+
+pub hex-whole : (a b d e : List ℕ) (x y n : ℕ) → b ≡ a ++ (92 ∷ (120 ∷ [])) → d ≡ b ++ (x ∷ []) → e ≡ d ++ (y ∷ []) → x ≡ hex_digit (n / 16) → y ≡ hex_digit (n % 16) → e ≡ a ++ hex_escape n
+hex-whole a b d e x y n p q r f g =
+    joined a b e (92 ∷ (120 ∷ [])) (x ∷ (y ∷ [])) p (joined b d e (x ∷ []) (y ∷ []) q r)
+    ∙ ap (λ h. a ++ (92 ∷ (120 ∷ (h ∷ (y ∷ []))))) f ∙ ap (λ h. a ++ (92 ∷ (120 ∷ (hex_digit (n / 16) ∷ (h ∷ []))))) g
 
 pub escapes-step : (a b d id : List ℕ) (i : ℕ) → i < length id → b ≡ a ++ escapes (take i id) → d ≡ b ++ escape (get_or id i 0) → d ≡ a ++ escapes (take (i + 1) id)
 escapes-step a b d id i h p q =

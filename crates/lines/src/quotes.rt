@@ -1,6 +1,6 @@
 // Ids in double quotes: what cannot be printed as it is stands there in base sixteen.
 ghost use Rattle.std.specs.Prelude.{◌≡◌, ◌<◌, [], ◌∷◌, ◌++◌, string_bytes, OnOk};
-ghost use Rattle.lines.specs.Quotes.{hex_escape, escape, quote};
+ghost use Rattle.lines.specs.Quotes.{hex_digit, hex_escape, escape, quote};
 
 use std::alloc::AllocError;
 
@@ -29,10 +29,23 @@ fn escaped(line: &mut String, b: u8) -> Result<(), AllocError>
     Ok(())
 }
 
+// Two digits put one by one: a format with two places takes nearly three times the time.
 fn in_hex(line: &mut String, b: u8) -> Result<(), AllocError>
     ensures { OnOk result (string_bytes line.new ≡ string_bytes line.old ++ hex_escape b) }
 {
-    write!(line, "\\x{b:02x}")
+    line.push_str("\\x")?;
+    put(line, hex_digit(b / 16))?;
+    put(line, hex_digit(b % 16))?;
+    Ok(())
+}
+
+// The digit as a character: 0 to 9, then a to f.
+fn hex_digit(d: u8) -> u8
+    requires { d < 16 }
+    ensures value { result ≡ hex_digit d }
+    ensures ascii { result < 128 }
+{
+    if d < 10 { b'0' + d } else { b'a' + (d - 10) }
 }
 
 // Appends a character, which is one byte.

@@ -5,9 +5,10 @@ ghost use Rattle.operators.specs.Messages.{error_text};
 use std::error::Error;
 use std::fmt;
 
+// By the numbers that docs/NUMBERS.md has for them.
 #[derive(Clone, Copy, Debug, PartialEq, Eq)]
 pub enum EvalError {
-    EntityDoesNotExist,
+    EntityDoesNotExist = 1,
     AttrDoesNotExist,
     TagDoesNotExist,
     TypeError,

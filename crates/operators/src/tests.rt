@@ -87,3 +87,13 @@ fn a_stored_set(rt: HostRuntime) -> Result<(), Fail> {
     assert_eq!(rt; is_empty(&memory, v, 2), FALSE);
     Ok(())
 }
+
+// As docs/NUMBERS.md has them.
+#[test]
+fn numbers_of_errors(rt: HostRuntime) {
+    assert_eq!(rt; EvalError::EntityDoesNotExist as u8, 1);
+    assert_eq!(rt; EvalError::AttrDoesNotExist as u8, 2);
+    assert_eq!(rt; EvalError::TagDoesNotExist as u8, 3);
+    assert_eq!(rt; EvalError::TypeError as u8, 4);
+    assert_eq!(rt; EvalError::ArithBoundsError as u8, 5);
+}

@@ -109,11 +109,18 @@ module _ {X : Type 0} (r : Bytes → Read X) (bs : Bytes) where
       pub each-none : (get_or bs p 0 ≡ 1 → ⊥) → each T (from p) ≡ true
       each-none n = ap (λ R. each T (what [] R)) (none n)
 
--- ---- what tests of each element say
-pub each-all : {X : Type 0} (T : X → Bool) (xs : List X) → each (λ x _. T x) xs ≡ all T xs
-each-all T [] = refl
-each-all T (x ∷ xs) = ap (λ b. T x && b) (each-all T xs)
+    -- whether a test holds of all of them
+    module _ (T : X → Bool) where
+      pub all-on : get_or bs p 0 ≡ 1 → (e : ℕ) → Ends (length bs) (p + 1) (r (drop (p + 1) bs)) e → (b : Bool) → b ≡ holds T (r (drop (p + 1) bs)) → b ≡ true → all T (from e) ≡ all T (from p)
+      all-on o e w b q t = let s = step o e w in rw (s.is, sym (ap (holds T) s.first) ∙ sym q ∙ t)
 
+      pub all-no : get_or bs p 0 ≡ 1 → (b : Bool) → b ≡ holds T (r (drop (p + 1) bs)) → b ≡ false → false ≡ all T (from p)
+      all-no o b q t = let w = head o in ap (λ z. z && all T w.2) (sym t ∙ q ∙ ap (holds T) w.3) ∙ sym (ap (all T) w.4)
+
+      pub all_end : (get_or bs p 0 ≡ 1 → ⊥) → true ≡ all T (from p)
+      all_end n = rw (none n)
+
+-- ---- what tests of each element say
 pub all-any : {X : Type 0} (T : X → Bool) (xs : List X) → not (all (λ x. not (T x)) xs) ≡ any T xs
 all-any T [] = refl
 all-any T (x ∷ xs) = go (T x) (all-any T xs)

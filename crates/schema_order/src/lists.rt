@@ -40,8 +40,8 @@ pub(crate) fn item_end(bytes: &[u8], at: usize, listed: Listed) -> usize
 }
 
 // Goes along a list: where it ends, if a test holds of the place of each element and of the place behind it.
-// The one loop along lists. A closure and no iterator: that would be a struct with an invariant and an impl with two ghost members, where this loop has
-// seven lines.
+// The loop along lists, but for that of `all_items`. A closure and no iterator: that would be a struct with an invariant and an impl with two ghost
+// members, where this loop has seven lines.
 fn walk<F: Fn(usize, usize) -> bool>(
     bytes: &[u8],
     at: usize,
@@ -66,6 +66,7 @@ fn walk<F: Fn(usize, usize) -> bool>(
 }
 
 // Whether a test holds of the place of each element of a list.
+// A loop beside that of `walk`: here the test comes before the element's end is looked for, so that what is found is not gone along.
 pub(crate) fn all_items<F: Fn(usize) -> bool>(
     bytes: &[u8],
     at: usize,
@@ -76,11 +77,15 @@ pub(crate) fn all_items<F: Fn(usize) -> bool>(
     requires can { (item : _) → Got (read_item listed (drop item bytes.now)) → F.pre test item }
     ensures { (T : Item listed → Bool) → DecidesItem (F.post test) bytes.now listed T → result ≡ all T (list_at listed bytes.now at) }
 {
-    let each = |item: usize, _next: usize| -> bool
-        requires { F.pre test item }
-        ensures { F.post test item result }
-    { test(item) };
-    walk(bytes, at, listed, each).is_some()
+    let mut end = at;
+    while bytes[end] == 1 {
+        let item = end + 1;
+        if !test(item) {
+            return false;
+        }
+        end = item_end(bytes, item, listed);
+    }
+    true
 }
 
 // Whether a test holds of the place of some element of a list.

@@ -1,7 +1,8 @@
 // A schema as it lies in the store, and what is looked up in it.
 ghost use Rattle.schema_rows.specs.Entries.{EntriesIn, EntriesIn-prop, ActionsIn, ActionsIn-prop};
 
-use crate::entries::{Action, Entry, action_at, entry_at, is_below};
+use crate::entries::is_below;
+pub use crate::entries::{Action, Entry, action_at, entry_at, tag_type};
 use crate::lists::{Text, Uid, any_in, find_in, same_entities, skip_list};
 use types::nodes::same_names;
 

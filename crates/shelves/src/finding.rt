@@ -7,7 +7,7 @@ ghost use Rattle.values.specs.Held.{text_at, TextIn, uid_at, UIDIn};
 ghost use Rattle.shelves.specs.Items.{laid, items_at, id_key, IdIn, uid_key, UidIn, Shelf, Tabled};
 ghost use Rattle.shelves.specs.Spots.{there, taken, Found, EntryAt};
 
-use crate::table::Table;
+pub use crate::table::Table;
 use std::cmp::Ordering;
 use values::Memory;
 use values::search::binary_search;

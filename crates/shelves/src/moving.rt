@@ -53,6 +53,30 @@ fn raise(part: &mut [u64], old: u64, new: u64)
     }
 }
 
+// An item comes at `k` among `count`, in place of `gone`, which is none or one: it begins at `place`, and has `new` numbers for `old` that were there.
+// The numbers of a table are as they lie in memory.
+pub fn insert_place_at(
+    table: &mut [u64],
+    k: usize,
+    gone: usize,
+    count: usize,
+    place: u64,
+    old: u64,
+    new: u64,
+)
+    requires { (gone ≤ 1) × ((k + gone ≤ count) × ((count ≤ length table.old) × ((count + 1 ≤ length table.old + gone) × (((j : ℕ) → k + gone ≤ j → j < count → (old ≤ slice_index table.old j) × (slice_index table.old j + new < 2 ^ 64)))))) }
+    ensures { table.new ≡ tabled_with table.old k gone count place old new }
+{
+    let change = Splice {
+        at: k,
+        old: gone,
+        new: 1,
+    };
+    resize(table, change, count);
+    table[k] = place;
+    raise(&mut table[k + 1..count + 1 - gone], old, new);
+}
+
 // An item of `new` numbers comes at a spot among those of a table, whose numbers lie in `places`: new, or in place of the one that is there.
 pub fn insert_place(places: &mut [u64], table: Table, spot: Spot, new: usize)
     requires within { spot.index + there spot ≤ table.count }
@@ -61,17 +85,14 @@ pub fn insert_place(places: &mut [u64], table: Table, spot: Spot, new: usize)
     requires behind { (j : ℕ) → spot.index + there spot ≤ j → j < table.count → ((taken spot).numbers ≤ slice_index places.old j) × (slice_index places.old j + new < 2 ^ 64) }
     ensures { places.new ≡ tabled_with places.old spot.index (there spot) table.count (spot.at - table.from) (taken spot).numbers new }
 {
-    let gone = spot.count();
-    let change = Splice {
-        at: spot.index,
-        old: gone,
-        new: 1,
-    };
-    resize(places, change, table.count);
     // places count from where the items begin
-    places[spot.index] = spot.at.saturating_sub(table.from) as u64;
-    raise(
-        &mut places[spot.index + 1..table.count + 1 - gone],
+    let place = spot.at.saturating_sub(table.from) as u64;
+    insert_place_at(
+        places,
+        spot.index,
+        spot.count(),
+        table.count,
+        place,
         spot.taken().numbers as u64,
         new as u64,
     );

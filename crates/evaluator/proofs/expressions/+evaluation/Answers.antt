@@ -41,20 +41,20 @@ eval_row-returns-clause-moves t c =
 
 pub eval_row-returns-clause-says : goal.eval_row-returns-clause-says
 eval_row-returns-clause-says t c =
-    formed c.args.inputs.height c.args.inputs.store.now c.args.at c.read.result (made c.args.inputs c.eval_form.new.work) c.eval_form.result (request_at (made c.args.inputs c.args.work.now) c.args.inputs.env.request) (entities_at c.args.inputs.store.now c.args.inputs.env.entities) c.if-inputs-eq0.false c.read.ensures c.eval_form.ensures.says
+    formed c.args.inputs.height c.args.inputs.store.now c.args.at c.read.result (made c.args.inputs c.eval_form.new.work) c.eval_form.result (request_at (made c.args.inputs c.args.work.now) c.args.inputs.env.now.request) (entities_at c.args.inputs.store.now c.args.inputs.env.now.entities) c.if-inputs-eq0.false c.read.ensures c.eval_form.ensures.says
 
 -- ---- eval_form
 pub eval_form-returns-in-String-clause-says : goal.eval_form-returns-in-String-clause-says
 eval_form-returns-in-String-clause-says t c =
-    string-says (c.args.inputs.height + 65) (GoodExpr c.args.inputs.height c.args.inputs.store.now) (expr_at c.args.inputs.height c.args.inputs.store.now) c.args.inputs.store.now (take c.args.work.now.top c.args.work.now.numbers.now) c.args.e c.in-String.p (request_at (made c.args.inputs c.args.work.now) c.args.inputs.env.request) (entities_at c.args.inputs.store.now c.args.inputs.env.entities) c.in-String.is c.requires.good
+    string-says (c.args.inputs.height + 65) (GoodExpr c.args.inputs.height c.args.inputs.store.now) (expr_at c.args.inputs.height c.args.inputs.store.now) c.args.inputs.store.now (take c.args.work.now.top c.args.work.now.numbers.now) c.args.e c.in-String.p (request_at (made c.args.inputs c.args.work.now) c.args.inputs.env.now.request) (entities_at c.args.inputs.store.now c.args.inputs.env.now.entities) c.in-String.is c.requires.good
 
 pub eval_form-returns-in-Entity-clause-says : goal.eval_form-returns-in-Entity-clause-says
 eval_form-returns-in-Entity-clause-says t c =
-    entity-says (c.args.inputs.height + 65) (GoodExpr c.args.inputs.height c.args.inputs.store.now) (expr_at c.args.inputs.height c.args.inputs.store.now) c.args.inputs.store.now (take c.args.work.now.top c.args.work.now.numbers.now) c.args.e c.in-Entity.p (request_at (made c.args.inputs c.args.work.now) c.args.inputs.env.request) (entities_at c.args.inputs.store.now c.args.inputs.env.entities) c.in-Entity.is c.requires.good
+    entity-says (c.args.inputs.height + 65) (GoodExpr c.args.inputs.height c.args.inputs.store.now) (expr_at c.args.inputs.height c.args.inputs.store.now) c.args.inputs.store.now (take c.args.work.now.top c.args.work.now.numbers.now) c.args.e c.in-Entity.p (request_at (made c.args.inputs c.args.work.now) c.args.inputs.env.now.request) (entities_at c.args.inputs.store.now c.args.inputs.env.now.entities) c.in-Entity.is c.requires.good
 
 pub eval_form-returns-in-Var-clause-says : goal.eval_form-returns-in-Var-clause-says
 eval_form-returns-in-Var-clause-says t c =
-    var-says c.args.inputs.height c.args.inputs.store.now (made c.args.inputs c.args.work.now) (expr_at c.args.inputs.height c.args.inputs.store.now) c.args.inputs.env c.args.e c.in-Var.v c.value_of.result (entities_at c.args.inputs.store.now c.args.inputs.env.entities) c.in-Var.is c.value_of.ensures c.requires.asked
+    var-says c.args.inputs.height c.args.inputs.store.now (made c.args.inputs c.args.work.now) (expr_at c.args.inputs.height c.args.inputs.store.now) c.args.inputs.env.now c.args.e c.in-Var.v c.value_of.result (entities_at c.args.inputs.store.now c.args.inputs.env.now.entities) c.in-Var.is c.value_of.ensures c.requires.asked
 
 -- ---- eval_if
 pub eval_if-returns-in_default : goal.eval_if-returns-in_default
@@ -214,7 +214,7 @@ eval_below-returns-clause-says t c =
     let same : up_to store (take c.args.limit work) c.args.work.now.top ≡ up_to store work c.args.work.now.top = ap (λ k. store ++ k) (take-take c.args.work.now.top c.args.limit work before) in
     let e = expr_at c.args.inputs.height store c.args.at in
     subst (λ m. Says (c.args.inputs.height + 65) m c.eval.result (comes_to c.args.inputs c.args.work.now e)) (sym (lent-up-to work low c.args.limit long store c.eval.new.top after))
-    (of-request (c.args.inputs.height + 65) (up_to store low c.eval.new.top) c.eval.result e (request_of c.args.inputs c.args.work.now) (request_at (up_to store (take c.args.limit work) c.args.work.now.top) c.args.inputs.env.request) (entities_of c.args.inputs) (ap (λ m. request_at m c.args.inputs.env.request) same) c.eval.ensures.says)
+    (of-request (c.args.inputs.height + 65) (up_to store low c.eval.new.top) c.eval.result e (request_of c.args.inputs c.args.work.now) (request_at (up_to store (take c.args.limit work) c.args.work.now.top) c.args.inputs.env.now.request) (entities_of c.args.inputs) (ap (λ m. request_at m c.args.inputs.env.now.request) same) c.eval.ensures.says)
 
 -- ---- eval_set and eval_record
 pub eval_set-eval_below-requires : goal.eval_set-eval_below-requires
