@@ -31,6 +31,17 @@ fn gives(rt: HostRuntime) {
     assert_eq!(rt; calls.next(), None);
 }
 
+// From the second call of two on, and behind the end.
+#[test]
+fn at_any_place(rt: HostRuntime) {
+    let file = b"\0\0\0\0\0\0\0\x01\x05\0\0\0\0\0\0\0\x01\x07";
+    let mut calls = Calls { file, at: 9 };
+    assert_eq!(rt; calls.next(), Some(Ok([7u8].as_slice())));
+    assert_eq!(rt; calls.next(), None);
+    assert_eq!(rt; Calls { file, at: 18 }.next(), None);
+    assert_eq!(rt; Calls { file, at: 100 }.next(), None);
+}
+
 #[test]
 fn cut_off_in_words(rt: HostRuntime) -> Result<(), Fail> {
     let words = format!(in rt.alloc(); "{}", CutOff { at: 9 })?;
